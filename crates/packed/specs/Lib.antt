@@ -1,0 +1,10 @@
+pub mod Faults
+pub mod Forms
+pub mod Shaped
+pub mod Reading
+pub mod Descent
+pub mod Trees
+pub mod Packing
+pub mod Laws
+pub mod Buffers
+pub mod Worked

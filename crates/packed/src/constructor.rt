@@ -1,0 +1,30 @@
+// A constructor, as it is described and as it is kept.
+
+// What a constructor holds: up to four integers, then up to four subtrees of the named types,
+// with 255 in the places of types that are not used.
+#[derive(Clone, Copy)]
+pub struct Fields {
+    pub integers: u8,
+    pub subtrees: u8,
+    pub types: [u8; 4],
+}
+
+// A constructor with the type that it belongs to.
+#[derive(Clone, Copy)]
+pub struct Constructor {
+    pub of: u8,
+    pub fields: Fields,
+}
+
+// Which limit a description of types breaks.
+#[derive(Clone, Copy)]
+pub enum Limit {
+    // There are not 1 to 16 types.
+    TypeCount,
+    // This type has not 1 to 16 constructors.
+    TypeSize { of: usize },
+    // The constructors are not as many as the types say, or over 64.
+    ConstructorCount,
+    // This constructor has over four integers or subtrees, a subtree of no type, or not 255 where none is.
+    Constructor { number: usize },
+}
