@@ -26,7 +26,7 @@ use Rattle.packed.proofs.Fair.{form-of, form-named}
 use Rattle.packed.proofs.Scans.{tag-read, skip-all, skip-short}
 use Rattle.packed.proofs.Words.{after, read-after, read-moved, never}
 use Rattle.packed.proofs.Digits.{Bytes, eights-bytes, bytes-append, bytes-drop, length-eights, length-integers, fit-integers, eights-integers}
-use Rattle.packed.proofs.Growth.{Onward, Begun, tree-accepted, forest-accepted, tree-grown}
+use Rattle.packed.proofs.Growth.{Onward, Begun, tree-accepted, tree-ended, forest-accepted, tree-grown}
 use Rattle.packed.proofs.Least.{Known, known-append, forest-of, alive-after, leaves}
 
 pub nth-below : {A : Type 0} (xs : List A) (i : ℕ) (x : A) → nth xs i ≡ Some x → i < length xs
@@ -93,6 +93,9 @@ module _ (g : List Constructor) where
                 goes = ap (readBytes g (left 0 (subtrees c ++ due)) (drop (8 * m) bs)) (omega arith) ∙ sym (skip-all g (8 * m) (subtrees c ++ due) bs (p + 1) h) ∙ on;
               }
 
+  pub bytes-ended : (x : Tree) (t : ℕ) → OfType g t x → (a : ℕ) (rest : List ℕ) → readBytes g (left 0 (t ∷ [])) (spelled asBytes x ++ a ∷ rest) 0 ≡ Err (length (spelled asBytes x))
+  bytes-ended x t w a rest = tree-ended g (nextByte g) nothingLeft (left 0) asBytes bytes-onward x t (λ b more p. refl) w a rest
+
   pub bytes-accepted : (x : Tree) (t : ℕ) → OfType g t x → readBytes g (left 0 (t ∷ [])) (spelled asBytes x) 0 ≡ Ok tt
   bytes-accepted x t w = tree-accepted g (nextByte g) nothingLeft (left 0) asBytes bytes-onward x t refl w
 
@@ -142,9 +145,9 @@ module _ (g : List Constructor) where
 
       pub bytes-leave : (t : ℕ) (word : List ℕ) (p : ℕ) → t < types → Bytes (take p word) → readBytes g (left 0 (t ∷ [])) word 0 ≡ Err p → Leaves asBytes g types t word p
       bytes-leave t word p known q e =
-          leaves (nextByte g) nothingLeft (left 0 (t ∷ [])) asBytes g types t (λ x w. bytes-accepted x t w) word p e
+          leaves (nextByte g) nothingLeft (left 0 (t ∷ [])) asBytes g types t (λ x w. bytes-accepted x t w) (λ x w. bytes-ended x t w) word p e
           (λ finite s there.
-          let alive = alive-after (nextByte g) nothingLeft (left 0 (t ∷ [])) asBytes g types t (λ x w. bytes-accepted x t w) Alive alive-next (left 0 (t ∷ [])) (take p word) s there (known, tt) in
+          let alive = alive-after (nextByte g) nothingLeft (left 0 (t ∷ [])) asBytes g types t (λ x w. bytes-accepted x t w) (λ x w. bytes-ended x t w) Alive alive-next (left 0 (t ∷ [])) (take p word) s there (known, tt) in
           let f = finish finite s alive in
           let on = read-after (nextByte g) nothingLeft (left 0 (t ∷ [])) s (take p word) (f .0) 0 there ∙ read-moved (nextByte g) nothingLeft s (f .0) 0 (0 + length (take p word)) (f .2) in
           (f .0, bytes-grown t (take p word ++ f .0) (bytes-append (take p word) (f .0) q (f .1)) on))

@@ -8,9 +8,6 @@ use lib.ListN.{length, getD, take, drop}
 use Rattle.std.proofs.shelf.Lists.{drop-all, drop-more, getD-take, length-take, length-take-le}
 use Rattle.std.proofs.shelf.Tests.{cases-lt}
 use Rattle.packed.specs.declared.constructor.Constructor.{Constructor}
-use Rattle.std.specs.declared.result.Result.{Result}
-use Rattle.std.specs.declared.result.Result.the-variants.{Ok, Err}
-use Rattle.packed.specs.Descent.{Beyond, Within}
 use Rattle.packed.specs.Forms.{subtrees}
 
 pub due-none : (c : Constructor) (i : ℕ) → c .fields .subtrees ≤ i → drop i (subtrees c) ≡ []
@@ -25,7 +22,3 @@ due-more c i room h =
 -- what holds of each place up to b, and from b on up to e, holds up to e
 pub seen-join : (P : ℕ → Type 0) (a b e : ℕ) → ((i : ℕ) → a ≤ i → i < b → P i) → ((i : ℕ) → b ≤ i → i < e → P i) → (i : ℕ) → a ≤ i → i < e → P i
 seen-join P a b e low high i h l = ⊎-elim (λ k. low i h k) (λ k. high i k l) (cases-lt i b)
-
-pub beyond-within : (r : Result ℕ ℕ) (at n : ℕ) → Beyond r at n → Within r at n
-beyond-within (Ok e) at n h = (omega arith, omega arith)
-beyond-within (Err p) at n h = (omega arith, omega arith)

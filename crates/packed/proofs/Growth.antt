@@ -72,6 +72,10 @@ module _ (g : List Constructor) {S A : Type 0} (next : S → A → Option S) (do
     pub tree-accepted : (x : Tree) (t : ℕ) → reads next done (start []) [] (0 + length (spelled head x)) ≡ Ok tt → OfType g t x → reads next done (start (t ∷ [])) (spelled head x) 0 ≡ Ok tt
     tree-accepted x t ends w = ap (λ l. Read (t ∷ []) l 0) (sym (append-nil (spelled head x))) ∙ tree-read x t [] [] 0 w ∙ ends
 
+    -- and nothing may follow it
+    pub tree-ended : (x : Tree) (t : ℕ) → ((a : A) (rest : List A) (p : ℕ) → reads next done (start []) (a ∷ rest) p ≡ Err p) → OfType g t x → (a : A) (rest : List A) → reads next done (start (t ∷ [])) (spelled head x ++ a ∷ rest) 0 ≡ Err (length (spelled head x))
+    tree-ended x t stops w a rest = tree-read x t [] (a ∷ rest) 0 w ∙ stops a rest (0 + length (spelled head x)) ∙ ap Err (omega arith)
+
     pub forest-accepted : (f : Forest) (ks : List ℕ) (p : ℕ) → reads next done (start []) [] (p + length (spelledAll head f)) ≡ Ok tt → OfTypes g ks f → reads next done (start ks) (spelledAll head f) p ≡ Ok tt
     forest-accepted f ks p ends w =
         ap (λ l. Read l (spelledAll head f) p) (sym (append-nil ks)) ∙ ap (λ l. Read (ks ++ []) l p) (sym (append-nil (spelledAll head f))) ∙ forest-read f ks [] [] p w ∙ ends

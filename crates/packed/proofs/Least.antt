@@ -10,7 +10,8 @@ use Rattle.std.specs.declared.option.Option.{Option}
 use Rattle.std.specs.declared.option.Option.the-variants.{Some, None}
 use Rattle.std.specs.declared.result.Result.{Result}
 use Rattle.std.specs.declared.result.Result.the-variants.{Ok, Err}
-use Rattle.std.proofs.shelf.Lists.{append-assoc, take-append-drop, take-take}
+use mathlib.Core.Logic.{_⊎_, inl, inr, ⊎-elim}
+use Rattle.std.proofs.shelf.Lists.{append-assoc, take-append-drop, take-take, take-all, length-drop, length-take-le}
 use Rattle.packed.specs.declared.constructor.Constructor.{Constructor}
 use Rattle.packed.specs.Forms.{either}
 use Rattle.packed.specs.Reading.{reads}
@@ -42,7 +43,7 @@ begins-less head g t word p q h b =
     let parts = sym (take-append-drop (q + 1) (take p word)) in
     (b .0, drop (q + 1) (take p word) ++ b .1, b .2, b .3 ∙ ap (λ l. l ++ b .1) parts ∙ append-assoc (take (q + 1) (take p word)) (drop (q + 1) (take p word)) (b .1) ∙ ap (λ l. l ++ (drop (q + 1) (take p word) ++ b .1)) back)
 
-module _ {S A : Type 0} (next : S → A → Option S) (done : S → Bool) (s₀ : S) (head : Spelling A) (g : List Constructor) (types t : ℕ) (accepted : (x : Tree) → OfType g t x → reads next done s₀ (spelled head x) 0 ≡ Ok tt) where
+module _ {S A : Type 0} (next : S → A → Option S) (done : S → Bool) (s₀ : S) (head : Spelling A) (g : List Constructor) (types t : ℕ) (accepted : (x : Tree) → OfType g t x → reads next done s₀ (spelled head x) 0 ≡ Ok tt) (ended : (x : Tree) → OfType g t x → (a : A) (rest : List A) → reads next done s₀ (spelled head x ++ a ∷ rest) 0 ≡ Err (length (spelled head x))) where
   -- what is alive can be read on to the end
   module _ (Alive : S → Type 0) (alive-next : (s : S) (a : A) (s′ : S) → next s a ≡ Some s′ → Alive s → Alive s′) where
     pub alive-after : (s : S) (u : List A) (s′ : S) → after next done s u ≡ Some s′ → Alive s → Alive s′
@@ -53,6 +54,15 @@ module _ {S A : Type 0} (next : S → A → Option S) (done : S → Bool) (s₀ 
         step None k again = absurd (let f = ap (λ o. either o None (λ m. after next done m u)) k in let z : _≡_ {A = ℕ} 0 1 = cc in omega arith)
         step (Some m) k again = let f = ap (λ o. either o None (λ m. after next done m u)) k in again m (sym f ∙ e) (alive-next s a m k h)
 
+  -- a word that a tree and more spell breaks off behind the tree
+  over : (word : List A) (q p : ℕ) → Spells head g t (take q word) → q ≤ length word → reads next done s₀ word 0 ≡ Err p → (tail : List A) → drop q word ≡ tail → (q ≡ length word) ⊎ (p ≡ q)
+  over word q p x h e [] d = inl (let l = length-drop q word in let m = ap length d in omega arith)
+  over word q p x h e (a ∷ tail) d =
+      let parts : spelled head (x .0) ++ a ∷ tail ≡ word = (λ i. x .2 i ++ sym d i) ∙ take-append-drop q word in
+      let long : length (spelled head (x .0)) ≡ q = ap length (x .2) ∙ length-take-le q word h in
+      let there = sym (ended (x .0) (x .1) a tail) ∙ ap (λ l. reads next done s₀ l 0) parts ∙ e in
+      inr (let same : length (spelled head (x .0)) ≡ p = cc in omega arith)
+
   pub leaves : (word : List A) (p : ℕ) → reads next done s₀ word 0 ≡ Err p → (Finite g types → (s : S) → after next done s₀ (take p word) ≡ Some s → (v : List A) × Spells head g t (take p word ++ v)) → Leaves head g types t word p
   leaves word p e finish =
       let b = breaks next done s₀ word 0 p e in
@@ -61,7 +71,9 @@ module _ {S A : Type 0} (next : S → A → Option S) (done : S → Bool) (s₀ 
       record {
         inside = omega arith;
         stuck = λ h x. b .stuck (omega arith) (x .1) (ap (λ n. reads next done s₀ (take (n + 1) word ++ x .1) 0) at ∙ ap (λ l. reads next done s₀ l 0) (sym (x .3)) ∙ accepted (x .0) (x .2));
-        unfinished = λ h x. never (reads next done s₀ word 0) tt (ap (λ l. reads next done s₀ l 0) (sym (x .2)) ∙ accepted (x .0) (x .1)) e;
+        unfinished = λ h q k x.
+            let whole = λ (f : q ≡ length word). never {X = ⊥} (reads next done s₀ word 0) tt (ap (λ l. reads next done s₀ l 0) (sym (take-all q word (omega arith)) ∙ sym (x .2)) ∙ accepted (x .0) (x .1)) e in
+            ⊎-elim whole (λ (f : p ≡ q). whole (omega arith)) (over word q p x (omega arith) e (drop q word) refl);
         least = λ finite q h.
             let f = finish finite (b .state) (ap (λ n. after next done s₀ (take n word)) (sym at) ∙ b .there) in
             begins-less head g t word p q h (f .1 .0, f .0, f .1 .1, f .1 .2);

@@ -26,7 +26,7 @@ use Rattle.packed.proofs.Blanks.{padded-take, blank-padded}
 use Rattle.packed.proofs.Fair.{form-of, form-named}
 use Rattle.packed.proofs.Scans.{node-read}
 use Rattle.packed.proofs.Words.{after, read-after, read-moved, never}
-use Rattle.packed.proofs.Growth.{Onward, Begun, tree-accepted, forest-accepted, tree-grown}
+use Rattle.packed.proofs.Growth.{Onward, Begun, tree-accepted, tree-ended, forest-accepted, tree-grown}
 use Rattle.packed.proofs.Least.{Known, known-append, forest-of, alive-after, leaves}
 
 abbrev pub Wholes : List Node → Type 0
@@ -69,6 +69,9 @@ module _ (g : List Constructor) where
   pub nodes-shut : (word : List Node) (p : ℕ) → readNodes g [] word p ≡ Ok tt → word ≡ []
   nodes-shut [] p e = refl
   nodes-shut (n ∷ ns) p e = absurd (let z : _≡_ {A = ℕ} 0 1 = cc in omega arith)
+
+  pub nodes-ended : (x : Tree) (t : ℕ) → OfType g t x → (a : Node) (rest : List Node) → readNodes g (t ∷ []) (spelled asNode x ++ a ∷ rest) 0 ≡ Err (length (spelled asNode x))
+  nodes-ended x t w a rest = tree-ended g (nextNode g) noneDue (λ due. due) asNode nodes-onward x t (λ b more p. refl) w a rest
 
   pub nodes-accepted : (x : Tree) (t : ℕ) → OfType g t x → readNodes g (t ∷ []) (spelled asNode x) 0 ≡ Ok tt
   nodes-accepted x t w = tree-accepted g (nextNode g) noneDue (λ due. due) asNode nodes-onward x t refl w
@@ -145,9 +148,9 @@ module _ (g : List Constructor) where
 
       pub nodes-leave : (t : ℕ) (word : List Node) (p : ℕ) → t < types → Wholes (take p word) → readNodes g (t ∷ []) word 0 ≡ Err p → Leaves asNode g types t word p
       nodes-leave t word p known q e =
-          leaves (nextNode g) noneDue (t ∷ []) asNode g types t (λ x w. nodes-accepted x t w) word p e
+          leaves (nextNode g) noneDue (t ∷ []) asNode g types t (λ x w. nodes-accepted x t w) (λ x w. nodes-ended x t w) word p e
           (λ finite s there.
-          let alive = alive-after (nextNode g) noneDue (t ∷ []) asNode g types t (λ x w. nodes-accepted x t w) (Known types) alive-next (t ∷ []) (take p word) s there (known, tt) in
+          let alive = alive-after (nextNode g) noneDue (t ∷ []) asNode g types t (λ x w. nodes-accepted x t w) (λ x w. nodes-ended x t w) (Known types) alive-next (t ∷ []) (take p word) s there (known, tt) in
           let f = finish finite s alive in
           let on = read-after (nextNode g) noneDue (t ∷ []) s (take p word) (f .0) 0 there ∙ read-moved (nextNode g) noneDue s (f .0) 0 (0 + length (take p word)) (f .2) in
           (f .0, nodes-grown t (take p word ++ f .0) (wholes-append (take p word) (f .0) q (f .1)) on))

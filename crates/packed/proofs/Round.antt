@@ -24,7 +24,7 @@ use Rattle.packed.specs.Trees.{Tree, Forest, Heads, OfType, OfTypes, spelled, 
 use Rattle.packed.specs.Trees.Tree.{tree}
 use Rattle.packed.specs.Trees.Forest.{none, more}
 use Rattle.packed.specs.Packing.{integersOf, bytesOf, integersIn, nodesOf, refusal, fitted, packOf, unpackOf}
-use Rattle.packed.specs.Laws.{Turned}
+use Rattle.packed.specs.Laws.{Turned, Accepts}
 use Rattle.packed.proofs.Blanks.{take-padded}
 use Rattle.packed.proofs.Digits.{length-eights, integers-eights}
 use Rattle.packed.proofs.ByteWords.{bytes-accepted}
@@ -74,6 +74,10 @@ module _ (g : List Constructor) where
       ∙ (λ i. fitted (bytes-accepted g x t w i) (length (nodes-of-tree x t w i)) room)
       ∙ ap (λ v. cond v (Ok (length (spelled asNode x))) (Err (refusal reason.ShortBuffer 0))) (le-leb (length (spelled asNode x)) room h)
 
+  -- every tree that fits the buffer is accepted
+  pub unpack-accepts : (types t : ℕ) (bs : List ℕ) (room : ℕ) (r : Result ℕ Fault) → r ≡ unpackOf g types t bs room → Accepts asBytes asNode g types t bs room r
+  unpack-accepts types t bs room r e x w known same fits = e ∙ ap (λ l. unpackOf g types t l room) (sym same) ∙ unpack-tree types t room x w known fits
+
   -- what pack wrote unpacks to the nodes it was given
   pub unpacks-back : (types t : ℕ) (ns : List Node) (out : List ℕ) (n : ℕ) → t < types → Turned asNode asBytes g t ns out n → (unpackOf g types t (take n out) (length ns) ≡ Ok (length ns)) × (nodesOf g 0 (take n out) ≡ ns)
   unpacks-back types t ns out n known w =
@@ -112,6 +116,9 @@ module _ (g : List Constructor) where
         ap (λ v. cond v (fitted (readNodes g (t ∷ []) (spelled asNode x) 0) (length (bytesOf g (spelled asNode x))) room) (Err (refusal reason.Kind 0))) (lt-ltb t types known)
         ∙ (λ i. fitted (nodes-accepted g x t w i) (length (bytes-of-tree x t w i)) room)
         ∙ ap (λ v. cond v (Ok (length (spelled asBytes x))) (Err (refusal reason.ShortBuffer 0))) (le-leb (length (spelled asBytes x)) room h)
+
+    pub pack-accepts : (types t : ℕ) (ns : List Node) (room : ℕ) (r : Result ℕ Fault) → r ≡ packOf g types t ns room → Accepts asNode asBytes g types t ns room r
+    pack-accepts types t ns room r e x w known same fits = e ∙ ap (λ l. packOf g types t l room) (sym same) ∙ pack-tree types t room x w known fits
 
     -- what unpack wrote packs to the bytes it was given
     pub packs-back : (types t : ℕ) (bs : List ℕ) (out : List Node) (n : ℕ) → t < types → Turned asBytes asNode g t bs out n → (packOf g types t (take n out) (length bs) ≡ Ok (length bs)) × (bytesOf g (take n out) ≡ bs)

@@ -1,11 +1,8 @@
 -- What the readers by descent answer.
 use Prim.Native.Nat.{ℕ, _<_, _≤_}
-use mathlib.Core.List.{List, _∷_, _++_}
 use Rattle.std.specs.declared.result.Result.{Result}
 use Rattle.std.specs.declared.result.Result.the-variants.{Ok, Err}
-use Rattle.packed.specs.declared.constructor.Constructor.{Constructor}
 use Rattle.packed.specs.declared.head.Head.{Head}
-use Rattle.packed.specs.Forms.{subtrees}
 
 -- how a reading goes on behind an end, or the place at which it broke off
 abbrev pub onward : {A : Type 0} → Result A ℕ → (A → Result (Unit {0}) ℕ) → Result (Unit {0}) ℕ
@@ -17,6 +14,7 @@ abbrev pub placeOf : Result ℕ ℕ → ℕ
 placeOf (Ok e) = e
 placeOf (Err p) = p
 
+-- an answer lies between where the reading began and its end
 abbrev pub Within : Result ℕ ℕ → ℕ → ℕ → Type 0
 Within r at n = (at ≤ placeOf r) × (placeOf r ≤ n)
 
@@ -25,10 +23,12 @@ abbrev pub Beyond : Result ℕ ℕ → ℕ → ℕ → Type 0
 Beyond (Ok e) at n = (at < e) × (e ≤ n)
 Beyond (Err p) at n = (at ≤ p) × (p ≤ n)
 
+-- the same of a head, and that its constructor is one of the shapes'
 abbrev pub HeadWithin : Result Head ℕ → ℕ → ℕ → Type 0
 HeadWithin (Ok h) at n = (at < h .end) × (h .end ≤ n) × (h .constructor .fields .subtrees ≤ 4)
 HeadWithin (Err p) at n = (at ≤ p) × (p ≤ n)
 
+-- the place that an answer about a head names
 abbrev pub headPlace : Result Head ℕ → ℕ
 headPlace (Ok h) = h .end
 headPlace (Err p) = p

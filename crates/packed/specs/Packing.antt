@@ -1,14 +1,12 @@
 -- What pack and unpack answer and write.
 use Prim.Native.Nat.{ℕ, zero, suc, _+_, _*_}
-use mathlib.Core.Bool.{Bool, true, false, cond}
+use mathlib.Core.Bool.{cond}
 use mathlib.Core.List.{List, [], _∷_, _++_}
 use lib.Dec.{leb, ltb}
 use lib.IntN.{ℤ}
 use lib.ListN.{length, take, drop}
 use mir.Syntax.{w64}
 use mir.Val.{toZ}
-use Rattle.std.specs.declared.option.Option.{Option}
-use Rattle.std.specs.declared.option.Option.the-variants.{Some, None}
 use Rattle.std.specs.declared.result.Result.{Result}
 use Rattle.std.specs.declared.result.Result.the-variants.{Ok, Err}
 use Rattle.std.specs.shelf.Maps.{nth}
@@ -21,7 +19,7 @@ use Rattle.packed.specs.Forms.{either}
 use Rattle.packed.specs.Reading.{left, readNodes, readBytes}
 use Rattle.packed.specs.Trees.{nodeOf, asBytes}
 
--- how many integers the constructor numbered k has
+-- how many integers the constructor numbered k has; none where there is no such constructor, which no accepted tree has
 abbrev pub integersOf : List Constructor → ℕ → ℕ
 integersOf g k = either (nth g k) 0 (λ c. c .fields .integers)
 
@@ -43,7 +41,7 @@ abbrev pub integersIn : ℕ → List ℕ → List ℤ
 integersIn zero bs = []
 integersIn (suc k) bs = integer (take 8 bs) ∷ integersIn k (drop 8 bs)
 
--- the nodes of bytes, behind `skip` bytes of integers
+-- the nodes of bytes, behind `skip` bytes of integers, up to a tag that names no constructor
 abbrev pub nodesOf : List Constructor → ℕ → List ℕ → List Node
 nodesOf g (suc skip) [] = []
 nodesOf g (suc skip) (b ∷ bs) = nodesOf g skip bs

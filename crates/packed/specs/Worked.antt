@@ -11,6 +11,7 @@ use Rattle.packed.specs.declared.constructor.Constructor.{Constructor}
 use Rattle.packed.specs.declared.constructor.Fields.{Fields}
 use Rattle.packed.specs.declared.fault.Reason.the-variants as reason
 use Rattle.packed.specs.declared.node.Node.{Node}
+use Rattle.packed.specs.Faults.{numberOf}
 use Rattle.packed.specs.Forms.{limitOf, numbered}
 use Rattle.packed.specs.Packing.{bytesOf, nodesOf, refusal, packOf, unpackOf}
 use Rattle.packed.specs.Laws.{Finite}
@@ -28,6 +29,13 @@ minusOne = record { constructor = 0; integers = negsuc 0 ∷ pos 0 ∷ pos 0 ∷
 abbrev pub minusOneBytes : List ℕ
 minusOneBytes = 0 ∷ 255 ∷ 255 ∷ 255 ∷ 255 ∷ 255 ∷ 255 ∷ 255 ∷ 255 ∷ []
 
+-- a node over leaves of 258 and 2: low byte first, and the subtrees in order
+abbrev pub pair : List Node
+pair = record { constructor = 1; integers = pos 0 ∷ pos 0 ∷ pos 0 ∷ pos 0 ∷ [] } ∷ record { constructor = 0; integers = pos 258 ∷ pos 0 ∷ pos 0 ∷ pos 0 ∷ [] } ∷ record { constructor = 0; integers = pos 2 ∷ pos 0 ∷ pos 0 ∷ pos 0 ∷ [] } ∷ []
+
+abbrev pub pairBytes : List ℕ
+pairBytes = 1 ∷ 0 ∷ 2 ∷ 1 ∷ 0 ∷ 0 ∷ 0 ∷ 0 ∷ 0 ∷ 0 ∷ 0 ∷ 2 ∷ 0 ∷ 0 ∷ 0 ∷ 0 ∷ 0 ∷ 0 ∷ 0 ∷ []
+
 pub record Worked : Type 0 where
   -- the description keeps every limit
   pub described : isSome (limitOf (2 ∷ []) leafAndNode) ≡ false
@@ -39,6 +47,15 @@ pub record Worked : Type 0 where
   -- a leaf cut to 8 bytes ends too soon, at 8; with a tenth byte it goes on too long, at 9
   pub cut : unpackOf forms 1 0 (take 8 minusOneBytes) 1 ≡ Err (refusal reason.NotOneTree 8)
   pub extended : unpackOf forms 1 0 (minusOneBytes ++ 7 ∷ []) 1 ≡ Err (refusal reason.NotOneTree 9)
+  -- a node and its leaves, both ways; without its last leaf, and with an integer where it has none
+  pub pair-packs : packOf forms 1 0 pair 19 ≡ Ok 19
+  pub pair-bytes : bytesOf forms pair ≡ pairBytes
+  pub pair-unpacks : unpackOf forms 1 0 pairBytes 3 ≡ Ok 3
+  pub pair-nodes : nodesOf forms 0 pairBytes ≡ pair
+  pub pair-cut : packOf forms 1 0 (take 2 pair) 19 ≡ Err (refusal reason.NotOneTree 2)
+  pub crowded : packOf forms 1 0 (record { constructor = 1; integers = pos 5 ∷ pos 0 ∷ pos 0 ∷ pos 0 ∷ [] } ∷ []) 19 ≡ Err (refusal reason.NotOneTree 0)
+  -- the numbers that clients see
+  pub numbers : (numberOf reason.Kind ≡ 32) × (numberOf reason.NotOneTree ≡ 43) × (numberOf reason.ShortBuffer ≡ 53)
   -- a type that there is not, and a buffer that is too short
   pub unknown : unpackOf forms 1 1 minusOneBytes 1 ≡ Err (refusal reason.Kind 0)
   pub short : unpackOf forms 1 0 minusOneBytes 0 ≡ Err (refusal reason.ShortBuffer 0)

@@ -9,6 +9,7 @@ use crate::head::Head;
 use crate::reader::Source;
 use crate::shapes::Shapes;
 
+// The bytes of a tree, which a `Source` reads.
 #[derive(Clone, Copy)]
 pub struct Bytes<'a> {
     pub bytes: &'a [u8],
@@ -17,7 +18,7 @@ pub struct Bytes<'a> {
 // How many bytes a head of this constructor has.
 pub fn head_len(constructor: &Constructor) -> usize
     ensures value { λ r. ⌜ r ≡ 1 + 8 * now (constructor .entry) .fields .integers ⌝ }
-    ensures bound { λ r. ⌜ r < 2048 ⌝ }
+    ensures bound { λ r. ⌜ r ≤ 2041 ⌝ }
 {
     1 + 8 * constructor.fields.integers as usize
 }
@@ -27,6 +28,7 @@ pub impl<'a> Source for Bytes<'a> as BytesSource {
 
     ghost scan = { λ s g due at. readBytes g (left 0 due) (drop at (now (s .bytes))) at };
 
+    // true of every byte: what is known of one that was read, for the laws of refusals
     ghost fits = { λ s i. getD (now (s .bytes)) i 0 < 256 };
 
     fn close(&self, at: usize) -> Result<(), usize> {
@@ -45,13 +47,13 @@ pub impl<'a> Source for Bytes<'a> as BytesSource {
         let Some(constructor) = shapes.form(ty, bytes[at]) else {
             return Err(at);
         };
-        let long = head_len(&constructor);
-        if bytes.len() - at < long {
+        let length = head_len(&constructor);
+        if bytes.len() - at < length {
             return Err(bytes.len());
         }
         Ok(Head {
             constructor,
-            end: at + long,
+            end: at + length,
         })
     }
 }

@@ -1,7 +1,19 @@
-// A constructor, as it is described and as it is kept.
+// A constructor, as it is described and as it is kept, and the limits of both.
 
-// What a constructor holds: up to four integers, then up to four subtrees of the named types,
-// with 255 in the places of types that are not used.
+pub const MAX_TYPES: usize = 16;
+
+pub const MAX_SIZE: u8 = 16;
+
+pub const MAX_CONSTRUCTORS: usize = 64;
+
+pub const MAX_INTEGERS: u8 = 4;
+
+pub const MAX_SUBTREES: u8 = 4;
+
+// What stands in the place of a subtree's type behind the last subtree.
+pub const NO_TYPE: u8 = 255;
+
+// What a constructor holds: integers, then subtrees of the named types.
 #[derive(Clone, Copy)]
 pub struct Fields {
     pub integers: u8,

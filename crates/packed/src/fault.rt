@@ -6,28 +6,51 @@ ghost use Rattle.packed.specs.Packing.{refusal};
 // The grounds of refusal, in the order of their numbers.
 #[derive(Clone, Copy)]
 pub enum Reason {
+    // bytes end before the rows do
     BytesEnd,
+    // bytes stand behind the rows
     BytesBehind,
+    // a count is outside its limit
     Count,
+    // a number has no meaning
     Meaning,
+    // rows are out of order
     RowOrder,
+    // a name is not in scope, or bound twice
     Scope,
+    // a kind or a type is wrong
     Kind,
+    // a new location is not asked for where it may be
     LocationRule,
+    // a tree is not written where it should be
     Unwritten,
+    // a child leaves its location behind
     ChildLeft,
+    // arms end differently
     ArmsDiffer,
+    // there is input for a program that takes none
     NoParameter,
+    // a room or an input has a size that is not allowed
     Room,
+    // something is not exactly one tree of the type
     NotOneTree,
+    // a store has no room for what a run opens first
     NoOpening,
+    // a budget is too large
     Budget,
+    // a run is not finished
     Unfinished,
+    // a buffer is too short
     ShortBuffer,
+    // a region is not open
     UnknownRegion,
+    // a cell lies past the room
     PastRoom,
+    // a cell is filled already
     Filled,
+    // a cell is empty
     Empty,
+    // a region cannot be opened
     OpenRefused,
 }
 
@@ -40,6 +63,7 @@ pub struct Fault {
 }
 
 impl Fault {
+    // The number that clients know the reason by.
     pub fn number(self) -> u8
         ensures value { λ r. ⌜ r ≡ numberOf (self .reason) ⌝ }
     {

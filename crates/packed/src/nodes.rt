@@ -13,12 +13,13 @@ use crate::node::Node;
 use crate::reader::Source;
 use crate::shapes::Shapes;
 
+// The nodes of a tree in descent order, which a `Source` reads.
 #[derive(Clone, Copy)]
 pub struct Nodes<'a> {
     pub nodes: &'a [Node],
 }
 
-// Whether nothing but 0 stands behind the first k integers.
+// Whether nothing but 0 stands behind the first k integers. (`whole` is what reading all four tells of a node.)
 fn blank_behind(node: &Node, k: u8) -> bool
     requires { ⌜ k ≤ 4 ⌝ }
     ensures value { λ r. ⌜ r ≡ blankBehind k (now (node .entry)) ⌝ }

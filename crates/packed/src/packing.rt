@@ -1,15 +1,13 @@
 // Packing: nodes in descent order into bytes.
 ghost use mathlib.Core.Path.{_≡_};
-ghost use mathlib.Core.List.{List, [], _∷_, _++_};
+ghost use mathlib.Core.List.{List, _++_};
 ghost use Prim.Native.Nat.{ℕ, _+_, _*_, _<_, _≤_};
 ghost use lib.ListN.{length, take, drop};
-ghost use Rattle.std.specs.Vec.{made};
-ghost use Rattle.std.specs.declared.result.Result.the-variants.{Ok};
 ghost use Rattle.packed.specs.Buffers.{Front};
 ghost use Rattle.packed.specs.Trees.{AllWhole, asNode, asBytes, eight};
 ghost use Rattle.packed.specs.Shaped.{formsOf};
-ghost use Rattle.packed.specs.Packing.{bytesOf, nodesOf, packOf, unpackOf, filled};
-ghost use Rattle.packed.specs.Laws.{Judged};
+ghost use Rattle.packed.specs.Packing.{bytesOf, packOf, filled};
+ghost use Rattle.packed.specs.Laws.{Judged, Accepts, UnpacksTo};
 use crate::fault::Fault;
 use crate::fault::Reason;
 use crate::fault::refused;
@@ -45,11 +43,11 @@ fn packed_len(shapes: &Shapes, nodes: &[Node]) -> usize
     requires { ⌜ AllWhole (now nodes) ⌝ }
     ensures value { λ r. ⌜ r ≡ length (bytesOf (formsOf (now (shapes .entry))) (now (nodes .entry))) ⌝ }
 {
-    let mut long = 0;
+    let mut length = 0;
     for node in nodes {
-        long += 1 + 8 * shapes.integers(node.constructor) as usize;
+        length += 1 + 8 * shapes.integers(node.constructor) as usize;
     }
-    long
+    length
 }
 
 // Writes the bytes of the nodes at the front.
@@ -66,23 +64,36 @@ fn put_heads(shapes: &Shapes, nodes: &[Node], out: &mut [u8])
     }
 }
 
+// The same as `pack`, for a type of the shapes.
+fn pack_known(shapes: &Shapes, ty: u8, nodes: &[Node], out: &mut [u8]) -> Result<usize, Fault>
+    requires { ⌜ ty < now shapes .types ⌝ }
+    ensures value { λ r. ⌜ r ≡ packOf (formsOf (now (shapes .entry))) (now (shapes .entry) .types) ty (now (nodes .entry)) (length (now (out .entry))) ⌝ }
+    ensures after { λ r. ⌜ now (out .exit) ≡ filled r (bytesOf (formsOf (now (shapes .entry))) (now (nodes .entry))) (now (out .entry)) ⌝ }
+    ensures judged { λ r. ⌜ Judged asNode asBytes (formsOf (now (shapes .entry))) (now (shapes .entry) .types) ty (now (nodes .entry)) (now (out .exit)) r ⌝ }
+    ensures accepts { λ r. ⌜ Accepts asNode asBytes (formsOf (now (shapes .entry))) (now (shapes .entry) .types) ty (now (nodes .entry)) (length (now (out .entry))) r ⌝ }
+    ensures back { λ r. ⌜ UnpacksTo (formsOf (now (shapes .entry))) (now (shapes .entry) .types) ty (now (nodes .entry)) (now (out .exit)) r ⌝ }
+{
+    if let Err(place) = whole(shapes, &Nodes { nodes }, ty) {
+        return Err(refused(Reason::NotOneTree, place));
+    }
+    let length = packed_len(shapes, nodes);
+    if length > out.len() {
+        return Err(refused(Reason::ShortBuffer, 0));
+    }
+    put_heads(shapes, nodes, out);
+    Ok(length)
+}
+
 // Packs the nodes of one tree of type `ty` into the front of `out`, and answers how many bytes it took.
 pub fn pack(shapes: &Shapes, ty: u8, nodes: &[Node], out: &mut [u8]) -> Result<usize, Fault>
     ensures value { λ r. ⌜ r ≡ packOf (formsOf (now (shapes .entry))) (now (shapes .entry) .types) ty (now (nodes .entry)) (length (now (out .entry))) ⌝ }
     ensures after { λ r. ⌜ now (out .exit) ≡ filled r (bytesOf (formsOf (now (shapes .entry))) (now (nodes .entry))) (now (out .entry)) ⌝ }
     ensures judged { λ r. ⌜ Judged asNode asBytes (formsOf (now (shapes .entry))) (now (shapes .entry) .types) ty (now (nodes .entry)) (now (out .exit)) r ⌝ }
-    ensures back { λ r. ⌜ made r (λ n. (unpackOf (formsOf (now (shapes .entry))) (now (shapes .entry) .types) ty (take n (now (out .exit))) (length (now (nodes .entry))) ≡ Ok (length (now (nodes .entry)))) × (nodesOf (formsOf (now (shapes .entry))) 0 (take n (now (out .exit))) ≡ now (nodes .entry))) ⌝ }
+    ensures accepts { λ r. ⌜ Accepts asNode asBytes (formsOf (now (shapes .entry))) (now (shapes .entry) .types) ty (now (nodes .entry)) (length (now (out .entry))) r ⌝ }
+    ensures back { λ r. ⌜ UnpacksTo (formsOf (now (shapes .entry))) (now (shapes .entry) .types) ty (now (nodes .entry)) (now (out .exit)) r ⌝ }
 {
     if ty as usize >= shapes.types() {
         return Err(refused(Reason::Kind, 0));
     }
-    if let Err(place) = whole(shapes, &Nodes { nodes }, ty) {
-        return Err(refused(Reason::NotOneTree, place));
-    }
-    let long = packed_len(shapes, nodes);
-    if long > out.len() {
-        return Err(refused(Reason::ShortBuffer, 0));
-    }
-    put_heads(shapes, nodes, out);
-    Ok(long)
+    pack_known(shapes, ty, nodes, out)
 }

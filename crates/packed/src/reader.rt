@@ -14,6 +14,7 @@ use crate::shapes::Shapes;
 
 // A list of symbols in which heads stand: bytes, or nodes.
 pub trait Source {
+    // how many symbols there are
     ghost size: { Self → ℕ };
 
     // what reading answers from a place on, with trees of these types due
@@ -46,7 +47,7 @@ fn tree<S: Source>(shapes: &Shapes, source: &S, at: usize, ty: u8) -> Result<usi
     fields(shapes, source, head.end, &head.constructor, 0)
 }
 
-// The same for the subtrees of a constructor from number `done` on. The last one costs no level of the stack.
+// The same for the subtrees of a constructor from number `done` on.
 fn fields<S: Source>(
     shapes: &Shapes,
     source: &S,
@@ -60,14 +61,10 @@ fn fields<S: Source>(
     ensures goes { λ r. ⌜ ((due : List ℕ) → S·Source .scan (now (source .entry)) (formsOf (now (shapes .entry))) (drop done (subtrees (now (constructor .entry))) ++ due) at ≡ onward r (λ e. S·Source .scan (now (source .entry)) (formsOf (now (shapes .entry))) due e)) ⌝ }
     ensures seen { λ r. ⌜ ((i : ℕ) → at ≤ i → i < placeOf r → S·Source .fits (now (source .entry)) i) ⌝ }
 {
-    let count = constructor.fields.subtrees as usize;
-    if done >= count {
+    if done >= constructor.fields.subtrees as usize {
         return Ok(at);
     }
     let ty = constructor.fields.types[done];
-    if done + 1 == count {
-        return tree(shapes, source, at, ty);
-    }
     let end = tree(shapes, source, at, ty)?;
     fields(shapes, source, end, constructor, done + 1)
 }

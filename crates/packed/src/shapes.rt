@@ -6,13 +6,17 @@ ghost use Rattle.std.specs.Options.{isSome};
 ghost use mathlib.Core.Bool.{false};
 ghost use Rattle.packed.specs.Forms.{fieldsIn, limitOf, numbered};
 use crate::constructor::Constructor;
+use crate::constructor::MAX_CONSTRUCTORS;
+use crate::constructor::MAX_TYPES;
 
-// Each type's number of constructors, and the constructors, numbered through all types.
+// How many constructors each type has, and the constructors, numbered through all types. The facts: the arrays are as long
+// as they are declared and hold that many in front, which break no limit and have the types that their numbers say.
+// (No code reads `sizes`: with it the last fact can be said.)
 #[derive(Clone, Copy)]
 pub struct Shapes {
-    sizes: [u8; 16],
+    sizes: [u8; MAX_TYPES],
     types: usize,
-    constructors: [Constructor; 64],
+    constructors: [Constructor; MAX_CONSTRUCTORS],
     count: usize,
     ghost room: { (length sizes ≡ 16) × (length constructors ≡ 64) },
     ghost used: { (types ≤ 16) × (count ≤ 64) },

@@ -1,16 +1,14 @@
 // Unpacking: bytes into nodes in descent order.
 ghost use mathlib.Core.Path.{_≡_};
-ghost use mathlib.Core.List.{List, [], _∷_, _++_};
-ghost use Prim.Native.Nat.{ℕ, _+_, _*_, _<_, _≤_};
+ghost use mathlib.Core.List.{[], _∷_, _++_};
+ghost use Prim.Native.Nat.{_+_, _*_, _<_, _≤_};
 ghost use lib.ListN.{length, getD, take, drop};
-ghost use Rattle.std.specs.Vec.{made};
-ghost use Rattle.std.specs.shelf.Lists.{between};
 ghost use Rattle.std.specs.declared.result.Result.the-variants.{Ok};
 ghost use Rattle.packed.specs.Reading.{left, readBytes};
 ghost use Rattle.packed.specs.Trees.{nodeOf, asNode, asBytes};
 ghost use Rattle.packed.specs.Shaped.{formsOf};
-ghost use Rattle.packed.specs.Packing.{integer, integersIn, bytesOf, nodesOf, packOf, unpackOf, filled};
-ghost use Rattle.packed.specs.Laws.{Judged};
+ghost use Rattle.packed.specs.Packing.{integer, integersIn, nodesOf, unpackOf, filled};
+ghost use Rattle.packed.specs.Laws.{Judged, Accepts, PacksTo};
 use crate::bytes::Bytes;
 use crate::bytes::BytesSource;
 use crate::fault::Fault;
@@ -26,6 +24,7 @@ fn integer_at(bytes: &[u8], at: usize) -> i64
     ensures value { λ r. ⌜ r ≡ integer (take 8 (drop at (now (bytes .entry)))) ⌝ }
 {
     let [a, b, c, d, e, f, g, h] = &bytes[at..at + 8] else {
+        // never: the part has eight bytes
         return 0;
     };
     i64::from_le_bytes([*a, *b, *c, *d, *e, *f, *g, *h])
@@ -77,23 +76,36 @@ fn put_nodes(shapes: &Shapes, bytes: &[u8], ty: u8, out: &mut [Node])
     }
 }
 
+// The same as `unpack`, for a type of the shapes.
+fn unpack_known(shapes: &Shapes, ty: u8, bytes: &[u8], out: &mut [Node]) -> Result<usize, Fault>
+    requires { ⌜ ty < now shapes .types ⌝ }
+    ensures value { λ r. ⌜ r ≡ unpackOf (formsOf (now (shapes .entry))) (now (shapes .entry) .types) ty (now (bytes .entry)) (length (now (out .entry))) ⌝ }
+    ensures after { λ r. ⌜ now (out .exit) ≡ filled r (nodesOf (formsOf (now (shapes .entry))) 0 (now (bytes .entry))) (now (out .entry)) ⌝ }
+    ensures judged { λ r. ⌜ Judged asBytes asNode (formsOf (now (shapes .entry))) (now (shapes .entry) .types) ty (now (bytes .entry)) (now (out .exit)) r ⌝ }
+    ensures accepts { λ r. ⌜ Accepts asBytes asNode (formsOf (now (shapes .entry))) (now (shapes .entry) .types) ty (now (bytes .entry)) (length (now (out .entry))) r ⌝ }
+    ensures back { λ r. ⌜ PacksTo (formsOf (now (shapes .entry))) (now (shapes .entry) .types) ty (now (bytes .entry)) (now (out .exit)) r ⌝ }
+{
+    if let Err(place) = whole(shapes, &Bytes { bytes }, ty) {
+        return Err(refused(Reason::NotOneTree, place));
+    }
+    let length = node_count(shapes, bytes, ty);
+    if length > out.len() {
+        return Err(refused(Reason::ShortBuffer, 0));
+    }
+    put_nodes(shapes, bytes, ty, out);
+    Ok(length)
+}
+
 // Unpacks the bytes of one tree of type `ty` into the front of `out`, and answers how many nodes it has.
 pub fn unpack(shapes: &Shapes, ty: u8, bytes: &[u8], out: &mut [Node]) -> Result<usize, Fault>
     ensures value { λ r. ⌜ r ≡ unpackOf (formsOf (now (shapes .entry))) (now (shapes .entry) .types) ty (now (bytes .entry)) (length (now (out .entry))) ⌝ }
     ensures after { λ r. ⌜ now (out .exit) ≡ filled r (nodesOf (formsOf (now (shapes .entry))) 0 (now (bytes .entry))) (now (out .entry)) ⌝ }
     ensures judged { λ r. ⌜ Judged asBytes asNode (formsOf (now (shapes .entry))) (now (shapes .entry) .types) ty (now (bytes .entry)) (now (out .exit)) r ⌝ }
-    ensures back { λ r. ⌜ made r (λ n. (packOf (formsOf (now (shapes .entry))) (now (shapes .entry) .types) ty (take n (now (out .exit))) (length (now (bytes .entry))) ≡ Ok (length (now (bytes .entry)))) × (bytesOf (formsOf (now (shapes .entry))) (take n (now (out .exit))) ≡ now (bytes .entry))) ⌝ }
+    ensures accepts { λ r. ⌜ Accepts asBytes asNode (formsOf (now (shapes .entry))) (now (shapes .entry) .types) ty (now (bytes .entry)) (length (now (out .entry))) r ⌝ }
+    ensures back { λ r. ⌜ PacksTo (formsOf (now (shapes .entry))) (now (shapes .entry) .types) ty (now (bytes .entry)) (now (out .exit)) r ⌝ }
 {
     if ty as usize >= shapes.types() {
         return Err(refused(Reason::Kind, 0));
     }
-    if let Err(place) = whole(shapes, &Bytes { bytes }, ty) {
-        return Err(refused(Reason::NotOneTree, place));
-    }
-    let long = node_count(shapes, bytes, ty);
-    if long > out.len() {
-        return Err(refused(Reason::ShortBuffer, 0));
-    }
-    put_nodes(shapes, bytes, ty, out);
-    Ok(long)
+    unpack_known(shapes, ty, bytes, out)
 }

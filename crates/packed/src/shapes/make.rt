@@ -15,6 +15,12 @@ use super::Shapes;
 use crate::constructor::Constructor;
 use crate::constructor::Fields;
 use crate::constructor::Limit;
+use crate::constructor::MAX_CONSTRUCTORS;
+use crate::constructor::MAX_INTEGERS;
+use crate::constructor::MAX_SIZE;
+use crate::constructor::MAX_SUBTREES;
+use crate::constructor::MAX_TYPES;
+use crate::constructor::NO_TYPE;
 
 // What fills the places behind the last constructor.
 const UNUSED: Constructor = Constructor {
@@ -22,18 +28,18 @@ const UNUSED: Constructor = Constructor {
     fields: Fields {
         integers: 0,
         subtrees: 0,
-        types: [255; 4],
+        types: [NO_TYPE; 4],
     },
 };
 
-// How many constructors types of these sizes have, where each size is one of 1 to 16.
+// How many constructors types of these sizes have; refuses the first size that is not one of 1 to 16.
 fn total_of(sizes: &[u8]) -> Result<usize, Limit>
     requires { ⌜ length (now sizes) ≤ 16 ⌝ }
     ensures { λ r. ⌜ r ≡ either (sizeLimit 0 (now (sizes .entry))) (Ok (total (now (sizes .entry)))) Err ⌝ }
 {
     let mut sum = 0;
     for (of, size) in sizes.iter().enumerate() {
-        if *size < 1 || *size > 16 {
+        if *size < 1 || *size > MAX_SIZE {
             return Err(Limit::TypeSize { of });
         }
         sum += *size as usize;
@@ -46,14 +52,14 @@ fn total_of(sizes: &[u8]) -> Result<usize, Limit>
 fn is_fair(fields: &Fields, types: usize) -> bool
     ensures { λ r. ⌜ r ≡ fair types (now (fields .entry)) ⌝ }
 {
-    if fields.integers > 4 || fields.subtrees > 4 {
+    if fields.integers > MAX_INTEGERS || fields.subtrees > MAX_SUBTREES {
         return false;
     }
     for (i, ty) in fields.types.iter().enumerate() {
         let fits = if i < fields.subtrees as usize {
             (*ty as usize) < types
         } else {
-            *ty == 255
+            *ty == NO_TYPE
         };
         if !fits {
             return false;
@@ -75,7 +81,7 @@ fn test_fields(fields: &[Fields], types: usize) -> Result<(), Limit>
 }
 
 // The constructors with these fields: each type in turn takes as many as its size says.
-fn number(sizes: &[u8], fields: &[Fields]) -> [Constructor; 64]
+fn number(sizes: &[u8], fields: &[Fields]) -> [Constructor; MAX_CONSTRUCTORS]
     requires some { ⌜ 1 ≤ length (now sizes) ⌝ }
     requires few { ⌜ length (now sizes) ≤ 16 ⌝ }
     requires sized { ⌜ isSome (sizeLimit 0 (now sizes)) ≡ false ⌝ }
@@ -84,7 +90,7 @@ fn number(sizes: &[u8], fields: &[Fields]) -> [Constructor; 64]
     ensures room { λ r. ⌜ length r ≡ 64 ⌝ }
     ensures filled { λ r. ⌜ take (length (now (fields .entry))) r ≡ numbered 0 (now (sizes .entry)) (now (fields .entry)) ⌝ }
 {
-    let mut constructors = [UNUSED; 64];
+    let mut constructors = [UNUSED; MAX_CONSTRUCTORS];
     // The type that takes constructors, and how many of its own are still to come.
     let mut of = 0;
     let mut left = sizes[0];
@@ -102,13 +108,13 @@ fn number(sizes: &[u8], fields: &[Fields]) -> [Constructor; 64]
     constructors
 }
 
-// The sizes, with 0 behind them.
-fn padded(sizes: &[u8]) -> [u8; 16]
+// The sizes, in an array that has room for all.
+fn padded(sizes: &[u8]) -> [u8; MAX_TYPES]
     requires { ⌜ length (now sizes) ≤ 16 ⌝ }
     ensures room { λ r. ⌜ length r ≡ 16 ⌝ }
     ensures front { λ r. ⌜ take (length (now (sizes .entry))) r ≡ now (sizes .entry) ⌝ }
 {
-    let mut all = [0; 16];
+    let mut all = [0; MAX_TYPES];
     all[0..sizes.len()].copy_from_slice(sizes);
     all
 }
@@ -119,10 +125,10 @@ impl Shapes {
         ensures value { λ r. ⌜ broken r ≡ limitOf (now (sizes .entry)) (now (fields .entry)) ⌝ }
         ensures made { λ r. ⌜ made r (λ s. (sizesOf s ≡ now (sizes .entry)) × (formsOf s ≡ numbered 0 (now (sizes .entry)) (now (fields .entry)))) ⌝ }
     {
-        if sizes.is_empty() || sizes.len() > 16 {
+        if sizes.is_empty() || sizes.len() > MAX_TYPES {
             return Err(Limit::TypeCount);
         }
-        if total_of(sizes)? != fields.len() || fields.len() > 64 {
+        if total_of(sizes)? != fields.len() || fields.len() > MAX_CONSTRUCTORS {
             return Err(Limit::ConstructorCount);
         }
         test_fields(fields, sizes.len())?;
@@ -146,6 +152,7 @@ impl Shapes {
     // How many types there are.
     pub fn types(&self) -> usize
         ensures value { λ r. ⌜ r ≡ now (self .entry) .types ⌝ }
+        ensures len { λ r. ⌜ r ≡ length (sizesOf (now (self .entry))) ⌝ }
     {
         self.types
     }
@@ -174,8 +181,8 @@ impl Shapes {
         }
     }
 
-    // The constructor of this number.
-    fn constructor(&self, number: u8) -> Option<Constructor>
+    // The constructor of this number, if there is one.
+    pub fn constructor(&self, number: u8) -> Option<Constructor>
         ensures value { λ r. ⌜ r ≡ nth (formsOf (now (self .entry))) number ⌝ }
         ensures cases { λ r. ⌜ BySome r (Unit {0}) (λ c. (c .fields .integers ≤ 4) × (c .fields .subtrees ≤ 4)) ⌝ }
     {

@@ -6,4 +6,4 @@ use Rattle.packed.specs.Shaped.{formsOf}
 use Rattle.packed.proofs.packing.packed_len.Given as given
 
 abbrev pub Inv-loop-node : given.InvT-loop-node
-Inv-loop-node l = (l .long + length (bytesOf (formsOf (l .shapes)) (drop (l .node-index) (l .nodes))) ≡ length (bytesOf (formsOf (l .shapes)) (l .nodes))) × (l .long ≤ 33 * l .node-index)
+Inv-loop-node l = (l .length + length (bytesOf (formsOf (l .shapes)) (drop (l .node-index) (l .nodes))) ≡ length (bytesOf (formsOf (l .shapes)) (l .nodes))) × (l .length ≤ 33 * l .node-index)

@@ -8,29 +8,15 @@ use Rattle.std.proofs.shelf.Results.{err-from-errBy}
 use Rattle.packed.specs.Forms.{subtrees}
 use Rattle.packed.specs.Shaped.{formsOf}
 use Rattle.packed.specs.Descent.{placeOf}
-use Rattle.packed.proofs.Dues.{due-none, due-more, seen-join, beyond-within}
+use Rattle.packed.proofs.Dues.{due-none, due-more, seen-join}
 use Rattle.packed.proofs.reader.+fields+tree.Needs as need
 
-pub fields-returns-then-done-count : need.fields-returns-then-done-count
-fields-returns-then-done-count g t c = record {
+pub fields-returns-then-done-constructor : need.fields-returns-then-done-constructor
+fields-returns-then-done-constructor g t c = record {
   within = (omega arith, omega arith);
   goes = λ due. ap (λ l. g .S·Source .scan (c .args .source .now) (formsOf (c .args .shapes .now)) (l ++ due) (c .args .at)) (due-none (c .args .constructor .now) (c .args .done) (omega arith));
   seen = λ i h l. absurd (omega arith);
 }
-
-pub fields-returns-then-done-count-2 : need.fields-returns-then-done-count-2
-fields-returns-then-done-count-2 g t c =
-    let four : length (c .args .constructor .now .fields .types) ≡ 4 = search needs in
-    let next = due-more (c .args .constructor .now) (c .args .done) (omega arith) (omega arith) in
-    let last = due-none (c .args .constructor .now) (c .args .done + 1) (omega arith) in
-    record {
-      within = beyond-within (c .tree .result) (c .args .at) _ (c .tree .ensures .within);
-      goes = λ due.
-          ap (λ l. g .S·Source .scan (c .args .source .now) (formsOf (c .args .shapes .now)) (l ++ due) (c .args .at)) next
-          ∙ ap (λ l. g .S·Source .scan (c .args .source .now) (formsOf (c .args .shapes .now)) (getD (c .args .constructor .now .fields .types) (c .args .done) 0 ∷ (l ++ due)) (c .args .at)) last
-          ∙ c .tree .ensures .goes due;
-      seen = c .tree .ensures .seen;
-    }
 
 pub fields-returns-in-Break-end : need.fields-returns-in-Break-end
 fields-returns-in-Break-end g t c =

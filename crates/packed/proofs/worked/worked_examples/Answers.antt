@@ -15,5 +15,5 @@ finite (suc t) h = absurd (omega arith)
 
 pub returns : need.returns
 returns c = record {
-  worked = record { described = refl; packs = refl; bytes = refl; unpacks = refl; nodes = refl; cut = refl; extended = refl; unknown = refl; short = refl; finite = finite };
+  worked = record { described = refl; packs = refl; bytes = refl; unpacks = refl; nodes = refl; cut = refl; extended = refl; pair-packs = refl; pair-bytes = refl; pair-unpacks = refl; pair-nodes = refl; pair-cut = refl; crowded = refl; numbers = (refl, refl, refl); unknown = refl; short = refl; finite = finite };
 }

@@ -42,6 +42,6 @@ returns c =
       within = (omega arith, omega arith, c .in-Some .ensures tt .cases .1);
       goes = λ due.
           bytes-head g (c .args .ty) due (c .args .self .now .bytes .now) (c .args .at) k (omega arith) (sym (c .in-Some .ensures tt .value)) (omega arith)
-          ∙ ap (λ n. readBytes g (left 0 (subtrees k ++ due)) (drop (c .args .at + n) (c .args .self .now .bytes .now)) (c .args .at + n)) (sym (c .head-len-long .ensures .value));
+          ∙ ap (λ n. readBytes g (left 0 (subtrees k ++ due)) (drop (c .args .at + n) (c .args .self .now .bytes .now)) (c .args .at + n)) (sym (c .head-len-length .ensures .value));
       seen = λ i h l. each i;
     }

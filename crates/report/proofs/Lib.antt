@@ -1,0 +1,5 @@
+mod Grown
+mod Walked
+mod Told
+mod Filled
+mod Counted

@@ -1,0 +1,6 @@
+pub mod Ages
+pub mod Parts
+pub mod Laid
+pub mod Rows
+pub mod Listed
+pub mod Refusing
