@@ -1,0 +1,14 @@
+pub mod RowBytes
+pub mod Rowing
+pub mod Recording
+pub mod Alls
+pub mod Judging
+pub mod Laying
+pub mod Limiting
+pub mod Linking
+pub mod Meanings
+pub mod Leasts
+pub mod Walking
+pub mod OrderSpans
+pub mod OrderFaults
+pub mod Bounds

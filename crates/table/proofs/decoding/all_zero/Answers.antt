@@ -1,0 +1,19 @@
+use mathlib.Core.Path.{_≡_, sym, _∙_}
+use native.Mathlib.Omega.{arith}
+use Rattle.std.proofs.shelf.Lists.{at-drop-more, at-drop-all}
+use Rattle.std.proofs.shelf.Ways.{tells}
+use Rattle.table.specs.Rows.{zeros}
+use Rattle.table.proofs.decoding.all_zero.Needs as need
+
+pub returns-then-b-ne0 : need.returns-then-b-ne0
+returns-then-b-ne0 c =
+    let m = at-drop-more zeros (c .args .bytes .now) (c .loop-b .b-index) 0 (omega arith) in
+    grind (arith, tells)
+
+pub loop-b-again : need.loop-b-again
+loop-b-again c =
+    let m = at-drop-more zeros (c .args .bytes .now) (c .loop-b .b-index) 0 (omega arith) in
+    grind (arith, tells)
+
+pub returns : need.returns
+returns c = sym (at-drop-all zeros (c .args .bytes .now) (c .loop-b .b-index) (omega arith)) ∙ c .loop-b .inv

@@ -1,0 +1,13 @@
+pub mod Rows
+pub mod Encoding
+pub mod Sections
+pub mod Laid
+pub mod Meaning
+pub mod Order
+pub mod Spans
+pub mod Walks
+pub mod Faults
+pub mod Table
+pub mod Links
+pub mod Linked
+pub mod Held
