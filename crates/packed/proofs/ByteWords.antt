@@ -1,23 +1,20 @@
 -- Bytes as a spelling of trees.
 use Prim.Native.Nat.{ℕ, zero, suc, _+_, _-_, _*_, _<_, _≤_}
 use mathlib.Core.Path.{_≡_, refl, sym, ap, subst, _∙_}
-use mathlib.Core.Bool.{Bool, true, false, cond}
 use mathlib.Core.List.{List, [], _∷_, _++_}
 use mathlib.Core.Logic.{⊎-elim}
 use native.Mathlib.Omega.{arith}
-use lib.IntN.{ℤ}
 use lib.ListN.{length, take, drop, getD, replicate}
 use Rattle.std.specs.declared.option.Option.{Option}
 use Rattle.std.specs.declared.option.Option.the-variants.{Some, None}
-use Rattle.std.specs.declared.result.Result.{Result}
 use Rattle.std.specs.declared.result.Result.the-variants.{Ok, Err}
 use Rattle.std.specs.shelf.Maps.{nth}
-use Rattle.std.proofs.shelf.Lists.{append-assoc, drop-at, length-append, length-drop, length-replicate, take-append-drop}
+use Rattle.std.proofs.shelf.Lists.{drop-at, length-append, length-drop, length-replicate, take-append-drop}
 use Rattle.std.proofs.shelf.Tests.{cases-lt}
 use Rattle.packed.specs.declared.constructor.Constructor.{Constructor}
 use Rattle.packed.specs.Forms.{either, subtrees, formAt}
-use Rattle.packed.specs.Reading.{reads, Left, left, nextByte, nothingLeft, readBytes}
-use Rattle.packed.specs.Trees.{Tree, Forest, Heads, OfType, OfTypes, spelled, spelledAll, eights, asBytes}
+use Rattle.packed.specs.Reading.{Left, left, nextByte, nothingLeft, readBytes}
+use Rattle.packed.specs.Trees.{Tree, Forest, OfType, OfTypes, spelled, spelledAll, eights, asBytes}
 use Rattle.packed.specs.Trees.Tree.{tree}
 use Rattle.packed.specs.Trees.Forest.{none, more}
 use Rattle.packed.specs.Packing.{integersIn}

@@ -1,10 +1,9 @@
 -- A write behind what a buffer's front holds makes the front longer.
 use Prim.Native.Nat.{ℕ, _+_}
 use mathlib.Core.Path.{_≡_, refl, sym, ap, subst, _∙_}
-use mathlib.Core.List.{List, [], _∷_, _++_}
-use native.Mathlib.Omega.{arith}
+use mathlib.Core.List.{List, [], _++_}
 use lib.ListN.{length, take, drop}
-use Rattle.std.proofs.shelf.Lists.{take-at, drop-at, drop-drop, append-assoc, append-nil, length-append}
+use Rattle.std.proofs.shelf.Lists.{take-at, drop-at, drop-drop, append-assoc, length-append}
 use Rattle.packed.specs.Buffers.{Front}
 
 pub front-none : {A : Type 0} (old : List A) → Front [] old 0 old

@@ -15,7 +15,7 @@ use Rattle.packed.specs.declared.fault.Fault.{Fault}
 use Rattle.packed.specs.declared.fault.Reason.the-variants as reason
 use Rattle.packed.specs.Trees.{spelled}
 use Rattle.packed.specs.Packing.{refusal, fitted, filled}
-use Rattle.packed.specs.Laws.{Spelling, Spells, Leaves, Turned, Refused, Judged}
+use Rattle.packed.specs.Laws.{Spelling, Spells, Leaves, Refused, Judged}
 use Rattle.packed.specs.Laws.Refused.{unknown, broken, short}
 
 -- `read` is what reading the word as a tree of type t answered, `written` what the word turns into, `old` the buffer before

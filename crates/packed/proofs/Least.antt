@@ -1,14 +1,12 @@
 -- Over any way to spell heads: where a reading breaks off, the word leaves the trees of its type.
-use Prim.Native.Nat.{ℕ, zero, suc, _+_, _-_, _<_, _≤_}
+use Prim.Native.Nat.{ℕ, _+_, _-_, _<_, _≤_}
 use mathlib.Core.Path.{_≡_, refl, sym, ap, subst, _∙_}
 use mathlib.Core.Bool.{Bool}
 use mathlib.Core.List.{List, [], _∷_, _++_}
 use native.Mathlib.Omega.{arith}
-use lib.IntN.{ℤ}
 use lib.ListN.{length, take, drop}
 use Rattle.std.specs.declared.option.Option.{Option}
 use Rattle.std.specs.declared.option.Option.the-variants.{Some, None}
-use Rattle.std.specs.declared.result.Result.{Result}
 use Rattle.std.specs.declared.result.Result.the-variants.{Ok, Err}
 use mathlib.Core.Logic.{_⊎_, inl, inr, ⊎-elim}
 use Rattle.std.proofs.shelf.Lists.{append-assoc, take-append-drop, take-take, take-all, length-drop, length-take-le}
@@ -18,7 +16,7 @@ use Rattle.packed.specs.Reading.{reads}
 use Rattle.packed.specs.Trees.{Tree, Forest, OfType, OfTypes, spelled}
 use Rattle.packed.specs.Trees.Forest.{none, more}
 use Rattle.packed.specs.Laws.{Spelling, Spells, Begins, Finite, Leaves}
-use Rattle.packed.proofs.Words.{after, read-after, read-moved, breaks, Breaks, never}
+use Rattle.packed.proofs.Words.{after, breaks, never}
 
 -- types that are known
 abbrev pub Known : ℕ → List ℕ → Type 0

@@ -1,24 +1,21 @@
 -- Nodes as a spelling of trees.
-use Prim.Native.Nat.{ℕ, zero, suc, _+_, _<_, _≤_, min}
+use Prim.Native.Nat.{ℕ, zero, suc, _+_, _<_, _≤_}
 use mathlib.Core.Path.{_≡_, refl, sym, ap, subst, _∙_}
 use mathlib.Core.Bool.{Bool, true, false, cond}
 use mathlib.Core.List.{List, [], _∷_, _++_}
 use native.Mathlib.Omega.{arith}
-use lib.IntN.{ℤ, pos}
-use lib.ListN.{length, take, drop}
-use mir.Syntax.{w64}
-use mir.Val.{SFits}
+use lib.IntN.{ℤ}
+use lib.ListN.{length, take}
 use Rattle.std.specs.declared.option.Option.{Option}
 use Rattle.std.specs.declared.option.Option.the-variants.{Some, None}
-use Rattle.std.specs.declared.result.Result.{Result}
 use Rattle.std.specs.declared.result.Result.the-variants.{Ok, Err}
 use Rattle.std.specs.shelf.Maps.{nth}
-use Rattle.std.proofs.shelf.Lists.{append-assoc, length-take-le}
+use Rattle.std.proofs.shelf.Lists.{length-take-le}
 use Rattle.packed.specs.declared.constructor.Constructor.{Constructor}
 use Rattle.packed.specs.declared.node.Node.{Node}
 use Rattle.packed.specs.Forms.{either, subtrees, formAt}
 use Rattle.packed.specs.Reading.{blankBehind, nextNode, noneDue, readNodes}
-use Rattle.packed.specs.Trees.{Tree, Forest, Fit, Whole, Heads, OfType, OfTypes, spelled, spelledAll, padded, nodeOf, asNode}
+use Rattle.packed.specs.Trees.{Tree, Forest, Fit, Whole, OfType, OfTypes, spelled, spelledAll, padded, nodeOf, asNode}
 use Rattle.packed.specs.Trees.Tree.{tree}
 use Rattle.packed.specs.Trees.Forest.{none, more}
 use Rattle.packed.specs.Laws.{Spells, Finite, Leaves}

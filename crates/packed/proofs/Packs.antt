@@ -1,12 +1,11 @@
 -- The bytes of nodes, one node at a time.
-use Prim.Native.Nat.{ℕ, zero, suc, _+_, _*_, _<_, _≤_}
+use Prim.Native.Nat.{ℕ, _+_, _*_, _<_, _≤_}
 use mathlib.Core.Path.{_≡_, refl, sym, ap, _∙_}
 use mathlib.Core.List.{List, [], _∷_, _++_}
 use native.Mathlib.Omega.{arith}
 use lib.ListN.{length, getD, take, drop}
-use Rattle.std.specs.declared.option.Option.the-variants.{Some}
 use Rattle.std.specs.shelf.Maps.{nth}
-use Rattle.std.proofs.shelf.Lists.{append-assoc, append-nil, drop-more, take-more, length-append, length-take-le}
+use Rattle.std.proofs.shelf.Lists.{append-assoc, append-nil, drop-more, take-more, length-take-le}
 use Rattle.std.proofs.shelf.Maps.{nth-getD}
 use Rattle.packed.specs.declared.constructor.Constructor.{Constructor}
 use Rattle.packed.specs.declared.node.Node.{Node}

@@ -1,14 +1,12 @@
 -- A tree's nodes pack to its bytes, and its bytes unpack to its nodes.
 use Prim.Native.Nat.{ℕ, zero, suc, _+_, _*_, _<_, _≤_}
 use mathlib.Core.Path.{_≡_, refl, sym, ap, _∙_}
-use mathlib.Core.Bool.{Bool, true, cond}
+use mathlib.Core.Bool.{cond}
 use mathlib.Core.List.{List, [], _∷_, _++_}
 use native.Mathlib.Omega.{arith}
 use lib.Dec.{leb, ltb}
-use lib.IntN.{ℤ}
-use lib.ListN.{length, take, drop}
-use Rattle.std.specs.declared.option.Option.{Option}
-use Rattle.std.specs.declared.option.Option.the-variants.{Some, None}
+use lib.ListN.{length, take}
+use Rattle.std.specs.declared.option.Option.the-variants.{Some}
 use Rattle.std.specs.declared.result.Result.{Result}
 use Rattle.std.specs.declared.result.Result.the-variants.{Ok, Err}
 use Rattle.std.specs.shelf.Maps.{nth}
@@ -20,7 +18,7 @@ use Rattle.packed.specs.declared.fault.Reason.the-variants as reason
 use Rattle.packed.specs.declared.node.Node.{Node}
 use Rattle.packed.specs.Forms.{either, subtrees}
 use Rattle.packed.specs.Reading.{left, readNodes, readBytes}
-use Rattle.packed.specs.Trees.{Tree, Forest, Heads, OfType, OfTypes, spelled, spelledAll, padded, nodeOf, asNode, eights, asBytes}
+use Rattle.packed.specs.Trees.{Tree, Forest, OfType, OfTypes, spelled, spelledAll, padded, nodeOf, asNode, eights, asBytes}
 use Rattle.packed.specs.Trees.Tree.{tree}
 use Rattle.packed.specs.Trees.Forest.{none, more}
 use Rattle.packed.specs.Packing.{integersOf, bytesOf, integersIn, nodesOf, refusal, fitted, packOf, unpackOf}

@@ -9,12 +9,12 @@ use lib.ListN.{length, getD, drop, length-drop}
 use Rattle.std.specs.declared.option.Option.{Option}
 use Rattle.std.specs.declared.option.Option.the-variants.{Some, None}
 use Rattle.std.specs.declared.result.Result.{Result}
-use Rattle.std.specs.declared.result.Result.the-variants.{Ok, Err}
+use Rattle.std.specs.declared.result.Result.the-variants.{Err}
 use Rattle.std.proofs.shelf.Lists.{drop-more, drop-all, drop-drop}
 use Rattle.packed.specs.declared.constructor.Constructor.{Constructor}
 use Rattle.packed.specs.declared.node.Node.{Node}
 use Rattle.packed.specs.Forms.{either, subtrees, formAt}
-use Rattle.packed.specs.Reading.{Left, left, blankBehind, nextNode, readNodes, readBytes}
+use Rattle.packed.specs.Reading.{left, blankBehind, readNodes, readBytes}
 
 -- bytes of integers are passed, or the bytes end among them
 pub skip-all : (g : List Constructor) (skip : ℕ) (due bs : List ℕ) (p : ℕ) → skip ≤ length bs → readBytes g (left skip due) bs p ≡ readBytes g (left 0 due) (drop skip bs) (p + skip)

@@ -1,17 +1,15 @@
 -- A buffer that unpack has filled, cut to what it answered.
 use Prim.Native.Nat.{ℕ}
-use mathlib.Core.Path.{_≡_, refl, ap, _∙_, sym, subst}
+use mathlib.Core.Path.{_≡_, refl, ap, _∙_}
 use mathlib.Core.Bool.{Bool, true, false, cond}
 use mathlib.Core.List.{List, [], _∷_, _++_}
-use native.Mathlib.Omega.{arith}
 use lib.Dec.{leb, ltb}
-use lib.ListN.{length, take, drop}
+use lib.ListN.{length, take}
 use Rattle.std.specs.declared.result.Result.{Result}
 use Rattle.std.specs.declared.result.Result.the-variants.{Ok, Err}
 use Rattle.packed.specs.declared.constructor.Constructor.{Constructor}
 use Rattle.packed.specs.declared.fault.Fault.{Fault}
 use Rattle.packed.specs.declared.fault.Reason.the-variants as reason
-use Rattle.packed.specs.declared.node.Node.{Node}
 use Rattle.packed.specs.Packing.{nodesOf, refusal, fitted, unpackOf}
 use Rattle.packed.specs.Reading.{left, readBytes}
 

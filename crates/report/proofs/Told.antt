@@ -5,13 +5,11 @@ use mathlib.Core.List.{List, [], _∷_, _++_, map}
 use lib.IntN.{ℤ, pos}
 use Rattle.std.specs.Of.Vec.{vec-items}
 use Rattle.std.specs.declared.option.Option.the-variants.{Some}
-use Rattle.std.proofs.shelf.Lists.{append-assoc}
 use Rattle.packed.specs.declared.node.Node.{Node}
 use Rattle.report.specs.declared.age.Age.{Age}
 use Rattle.report.specs.declared.age.Age.the-variants as age
 use Rattle.report.specs.declared.office.Deleted.{Deleted}
 use Rattle.report.specs.declared.office.Folder.{Folder}
-use Rattle.report.specs.declared.part.Part.{Part}
 use Rattle.report.specs.declared.part.Part.the-variants as part
 use Rattle.report.specs.declared.row.Place.{Place}
 use Rattle.report.specs.declared.row.Row.{Row}

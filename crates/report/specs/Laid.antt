@@ -1,5 +1,4 @@
 -- An office's folders as nodes in descent order.
-use Prim.Native.Nat.{ℕ}
 use mathlib.Core.List.{List, [], _∷_, _++_}
 use lib.IntN.{pos}
 use Rattle.std.specs.Of.Vec.{vec-items}

@@ -1,6 +1,5 @@
 // How long ago an entry was deleted, and what that means for bringing it back.
 ghost use mathlib.Core.Path.{_≡_};
-ghost use Prim.Native.Nat.{ℕ};
 ghost use Rattle.report.specs.Ages.{ageOf, isKept};
 
 // For so many days a deleted entry can be brought back.

@@ -1,10 +1,10 @@
 -- What an accepted layout says of its sections.
-use Prim.Native.Nat.{ℕ, _+_, _-_, _*_, _/_, _<_, _≤_}
-use mathlib.Core.Path.{_≡_, refl, sym, ap, subst, _∙_}
+use Prim.Native.Nat.{ℕ, _+_, _-_, _*_, _/_, _≤_}
+use mathlib.Core.Path.{_≡_, refl, subst}
 use mathlib.Core.Bool.{Bool, true, false, cond, _&&_}
 use mathlib.Core.List.{List}
 use native.Mathlib.Omega.{arith}
-use native.Mathlib.Nat.{div-mul-le-self, mul-le-mul-right, mul-one}
+use native.Mathlib.Nat.{div-mul-le-self, mul-le-mul-right}
 use lib.Dec.{eqb, leb}
 use lib.ListN.{length}
 use Rattle.std.specs.declared.result.Result.{Result}

@@ -12,3 +12,4 @@ pub mod Walking
 pub mod OrderSpans
 pub mod OrderFaults
 pub mod Bounds
+pub mod Forming

@@ -8,6 +8,7 @@ pub mod Spans
 pub mod Walks
 pub mod Faults
 pub mod Table
+pub mod Formed
 pub mod Links
 pub mod Linked
 pub mod Held

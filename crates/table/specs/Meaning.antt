@@ -1,28 +1,23 @@
 -- Layer 2, first part: numbers that have a fixed meaning. Names and row numbers are not looked at here.
 use Prim.Native.Nat.{ℕ, zero, suc, _+_, _-_, _*_}
-use mathlib.Core.Bool.{Bool, true, false, cond, not, _&&_, _||_}
+use mathlib.Core.Bool.{Bool, true, false, not, _&&_, _||_}
 use mathlib.Core.List.{List, [], _∷_}
 use lib.Dec.{eqb, leb, ltb}
-use lib.ListN.{length, getD, take, drop}
-use Rattle.std.specs.declared.option.Option.{Option}
-use Rattle.std.specs.declared.option.Option.the-variants.{Some, None}
+use lib.ListN.{getD, take, drop}
 use Rattle.std.specs.declared.result.Result.{Result}
-use Rattle.std.specs.declared.result.Result.the-variants.{Ok, Err}
+use Rattle.std.specs.declared.result.Result.the-variants.{Ok}
 use Rattle.std.specs.shelf.Maps.{nth}
 use Rattle.packed.specs.declared.constructor.Constructor.{Constructor}
 use Rattle.packed.specs.declared.constructor.Fields.{Fields}
-use Rattle.packed.specs.declared.constructor.Limit.{Limit}
 use Rattle.packed.specs.declared.constructor.Limit.the-variants as limit
 use Rattle.packed.specs.declared.fault.Fault.{Fault}
 use Rattle.packed.specs.declared.fault.Reason.the-variants as reason
-use Rattle.packed.specs.Forms.{either, all, limitOf, numbered}
+use Rattle.packed.specs.Forms.{either, all}
 use Rattle.table.specs.declared.function.Function.{Function}
 use Rattle.table.specs.declared.row.Row.{Row}
 use Rattle.table.specs.declared.row.Row.the-variants as row
-use Rattle.table.specs.declared.section.Section.{Section}
-use Rattle.table.specs.declared.section.Layout.{Layout}
-use Rattle.table.specs.Rows.{word, rowOf}
-use Rattle.table.specs.Sections.{onward, found, given, within, inRange}
+use Rattle.table.specs.Rows.{word}
+use Rattle.table.specs.Sections.{onward, given, inRange}
 
 -- `count` records of one width, by what their bytes describe
 abbrev pub recordsFrom : {A : Type 0} → ℕ → (List ℕ → A) → ℕ → List ℕ → List A

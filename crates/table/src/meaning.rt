@@ -1,17 +1,16 @@
 // Layer 2, first part: whether numbers with a fixed meaning have one.
 ghost use mathlib.Core.Path.{_≡_};
-ghost use mathlib.Core.Bool.{Bool, false, not, _&&_, _||_};
+ghost use mathlib.Core.Bool.{false, not, _&&_, _||_};
 ghost use lib.Dec.{eqb};
 ghost use Rattle.table.specs.Sections.{inRange};
-ghost use mathlib.Core.List.{List};
-ghost use Prim.Native.Nat.{ℕ, _+_, _*_, _<_, _≤_};
+ghost use Prim.Native.Nat.{_+_, _*_, _<_};
 ghost use denote.Ref.{now};
-ghost use lib.ListN.{length, getD, take, drop};
+ghost use lib.ListN.{drop};
 ghost use Rattle.std.specs.shelf.Maps.{nth};
 ghost use Rattle.packed.specs.Forms.{all, either};
 ghost use Rattle.packed.specs.Shaped.{formsOf};
 ghost use Rattle.table.specs.Held.{functionsOf};
-ghost use Rattle.table.specs.Meaning.{isKind, unused, mainLike, fairFunction, fairForm, fairCall, fairBranch, fairRow, Terms};
+ghost use Rattle.table.specs.Meaning.{isKind, unused, mainLike, fairFunction, fairForm, fairCall, fairBranch, fairRow};
 use crate::function::Function;
 use crate::functions::Functions;
 use crate::row::Row;

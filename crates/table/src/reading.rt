@@ -1,8 +1,8 @@
 // Reading a table: layer 1, then the meaning of numbers, then the order of rows.
 ghost use mathlib.Core.Path.{_≡_};
 ghost use mathlib.Core.List.{map};
-ghost use Prim.Native.Nat.{ℕ, _+_, _-_, _*_, _^_, _<_, _≤_};
-ghost use lib.ListN.{length, take, drop};
+ghost use Prim.Native.Nat.{_+_, _-_, _*_, _^_, _<_, _≤_};
+ghost use lib.ListN.{length, take};
 ghost use Rattle.std.specs.Options.{mapped};
 ghost use Rattle.std.specs.Vec.{made};
 ghost use Rattle.std.specs.declared.option.Option.the-variants.{Some};
@@ -16,6 +16,7 @@ ghost use Rattle.packed.specs.Forms.{either, limitOf, numbered};
 ghost use Rattle.packed.specs.Shaped.{formsOf, sizesOf};
 ghost use Rattle.table.specs.Meaning.{recordsFrom, fieldsOf};
 ghost use Rattle.table.specs.Table.{limitFault, Small, sizesIn, constructorsIn, meaningOf, tableOf, told};
+ghost use Rattle.table.specs.Formed.{Formed};
 ghost use Rattle.table.specs.Laid.{Laid};
 use crate::functions::Functions;
 use crate::judge::FunctionJudge;
@@ -186,6 +187,7 @@ fn ordered(rows: &Rows, functions: &Functions, start: usize) -> Result<(), Fault
 // Reads a table: where its sections lie, or its first fault, of layer 1 or layer 2.
 pub fn read(bytes: &[u8]) -> Result<Layout, Fault>
     ensures value { λ r. ⌜ r ≡ tableOf (now (bytes .entry)) ⌝ }
+    ensures formed { λ r. ⌜ ((l : Layout) → r ≡ Ok l → Formed (now (bytes .entry)) l) × ((l : Layout) → Formed (now (bytes .entry)) l → r ≡ Ok l) ⌝ }
 {
     let layout = layout(bytes)?;
     meaning(bytes, &layout)?;

@@ -1,9 +1,9 @@
-use Prim.Native.Nat.{_+_, _*_}
-use mathlib.Core.Path.{_≡_, ap}
+use Prim.Native.Nat.{_+_}
+use mathlib.Core.Path.{ap}
 use native.Mathlib.Omega.{arith}
 use lib.ListN.{length, getD, drop}
 use Rattle.std.proofs.shelf.Lists.{drop-all, length-append}
-use Rattle.packed.specs.Packing.{integersOf, bytesOf}
+use Rattle.packed.specs.Packing.{bytesOf}
 use Rattle.packed.specs.Shaped.{formsOf}
 use Rattle.packed.proofs.Packs.{blankNode, headOf, bytes-step, whole-at, length-head}
 use Rattle.packed.proofs.packing.packed_len.Needs as need

@@ -1,9 +1,9 @@
-use Prim.Native.Nat.{_+_, _*_}
-use mathlib.Core.Path.{_≡_, sym, ap, _∙_}
+use Prim.Native.Nat.{_+_}
+use mathlib.Core.Path.{_≡_, ap, _∙_}
 use mathlib.Core.List.{_++_}
 use native.Mathlib.Omega.{arith}
 use lib.ListN.{length, getD, take, drop}
-use Rattle.std.proofs.shelf.Lists.{drop-all, take-all, length-append}
+use Rattle.std.proofs.shelf.Lists.{take-all, length-append}
 use Rattle.packed.specs.Packing.{bytesOf}
 use Rattle.packed.specs.Trees.{asBytes}
 use Rattle.packed.specs.Shaped.{formsOf}

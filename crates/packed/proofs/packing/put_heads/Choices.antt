@@ -1,6 +1,5 @@
-use Prim.Native.Nat.{_+_, _≤_}
+use Prim.Native.Nat.{_+_}
 use mathlib.Core.Path.{_≡_}
-use mathlib.Core.List.{_++_}
 use lib.ListN.{length, take, drop}
 use Rattle.packed.specs.Buffers.{Front}
 use Rattle.packed.specs.Packing.{bytesOf}

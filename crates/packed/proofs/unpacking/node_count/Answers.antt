@@ -1,8 +1,8 @@
 use Prim.Native.Nat.{_+_, _*_}
-use mathlib.Core.Path.{_≡_, sym, ap, subst}
+use mathlib.Core.Path.{sym, ap, subst}
 use mathlib.Core.List.{[], _∷_}
 use native.Mathlib.Omega.{arith}
-use lib.ListN.{length, getD, drop}
+use lib.ListN.{length, drop}
 use Rattle.std.proofs.shelf.Lists.{drop-all}
 use Rattle.packed.specs.Packing.{nodesOf}
 use Rattle.packed.specs.Shaped.{formsOf}

@@ -1,10 +1,9 @@
 use Prim.Native.Nat.{_+_, _*_, _<_}
-use mathlib.Core.Path.{_≡_, sym, ap, subst, _∙_}
+use mathlib.Core.Path.{sym, ap, subst, _∙_}
 use mathlib.Core.List.{[], _∷_}
 use native.Mathlib.Omega.{arith}
 use lib.ListN.{length, getD, drop, set}
-use Rattle.std.proofs.shelf.Lists.{length-append}
-use Rattle.packed.specs.Packing.{integersOf, integersIn, nodesOf}
+use Rattle.packed.specs.Packing.{integersIn}
 use Rattle.packed.specs.Trees.{nodeOf}
 use Rattle.packed.specs.Shaped.{formsOf}
 use Rattle.packed.proofs.Counts.{Filled, passes, counted-room, filled-none, filled-more, filled-all}

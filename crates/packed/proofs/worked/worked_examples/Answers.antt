@@ -1,9 +1,9 @@
 use Prim.Native.Nat.{ℕ, zero, suc, _<_}
-use mathlib.Core.Path.{_≡_, refl}
+use mathlib.Core.Path.{refl}
 use mathlib.Core.List.{[], _∷_}
 use native.Mathlib.Omega.{arith}
 use lib.IntN.{pos}
-use Rattle.packed.specs.Trees.{Tree, Forest, OfType}
+use Rattle.packed.specs.Trees.{Tree, OfType}
 use Rattle.packed.specs.Trees.Tree.{tree}
 use Rattle.packed.specs.Trees.Forest.{none}
 use Rattle.packed.specs.Worked.{forms}

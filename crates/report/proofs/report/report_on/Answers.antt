@@ -1,4 +1,4 @@
-use mathlib.Core.Path.{_≡_, ap, _∙_, sym}
+use mathlib.Core.Path.{ap, _∙_}
 use lib.ListN.{length}
 use Rattle.packed.specs.Packing.{nodesOf}
 use Rattle.packed.specs.Shaped.{formsOf}

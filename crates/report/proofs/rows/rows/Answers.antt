@@ -1,4 +1,4 @@
-use mathlib.Core.Path.{_≡_, ap, _∙_}
+use mathlib.Core.Path.{ap, _∙_}
 use Rattle.std.specs.Of.Vec.{vec-items}
 use Rattle.report.proofs.Walked.{node-read, all-read, pushed, unpushed}
 use Rattle.report.proofs.rows.rows.Needs as need

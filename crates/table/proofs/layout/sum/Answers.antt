@@ -1,7 +1,5 @@
-use Prim.Native.Nat.{_+_}
 use native.Mathlib.Omega.{arith}
 use lib.ListN.{drop}
-use mathlib.Core.Path.{ap}
 use Rattle.std.proofs.shelf.Lists.{at-drop-more, at-drop-all}
 use Rattle.packed.specs.Forms.{total}
 use Rattle.table.proofs.layout.sum.Needs as need

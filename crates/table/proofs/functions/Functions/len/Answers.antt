@@ -1,5 +1,4 @@
 use mathlib.Core.Path.{sym}
-use native.Mathlib.Omega.{arith}
 use Rattle.table.specs.Meaning.{functionOf}
 use Rattle.table.proofs.Recording.{length-records}
 use Rattle.table.proofs.functions.Functions.len.Needs as need
