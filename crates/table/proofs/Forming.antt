@@ -89,7 +89,7 @@ none-unfair fair start width i (suc count) all =
     (none-unfair fair start width (i + 1) count (λ k h. let there : i + 1 + k ≡ i + suc k = omega arith in ap fair there ∙ all (suc k) (omega arith)))
 
 -- a refusal by what is there, and none where nothing is
-either-none : {A : Type 0} (o : Option A) (f : A → Fault) (u : Unit {0}) → either o (Ok (tt {0})) (λ b. Err (f b)) ≡ Ok u → o ≡ None
+pub either-none : {A : Type 0} (o : Option A) (f : A → Fault) (u : Unit {0}) → either o (Ok (tt {0})) (λ b. Err (f b)) ≡ Ok u → o ≡ None
 either-none None f u e = refl
 either-none (Some x) f u e = absurd (let z : _≡_ {A = ℕ} 0 1 = cc in omega arith)
 

@@ -13,3 +13,4 @@ pub mod OrderSpans
 pub mod OrderFaults
 pub mod Bounds
 pub mod Forming
+pub mod Firsting

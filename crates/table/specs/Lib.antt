@@ -9,6 +9,7 @@ pub mod Walks
 pub mod Faults
 pub mod Table
 pub mod Formed
+pub mod First
 pub mod Links
 pub mod Linked
 pub mod Held

@@ -1,6 +1,6 @@
 -- A table, as its bytes mean it: what is read, and the first fault.
 use Prim.Native.Nat.{ℕ, _+_, _-_, _*_, _<_}
-use mathlib.Core.Bool.{false}
+use mathlib.Core.Bool.{Bool, false}
 use mathlib.Core.List.{List, map}
 use lib.Dec.{eqb}
 use lib.ListN.{getD, take, drop}
@@ -58,13 +58,20 @@ module _ (bs : List ℕ) (l : Layout) where
   abbrev pub termsIn : Terms
   termsIn = record { types = l .types .count; forms = numbered 0 sizesIn constructorsIn; functions = functionsIn }
 
+  -- whether function i, or row i, is there and all its numbers have a meaning
+  abbrev pub fairFunctionAt : ℕ → Bool
+  fairFunctionAt i = either (nth functionsIn i) false (fairFunction (l .types .count) i)
+
+  abbrev pub fairRowAt : ℕ → Bool
+  fairRowAt i = either (rowOf (take 16 (drop (i * 16) (within bs (l .rows))))) false (fairRow termsIn)
+
   -- the edition, types, constructors, functions and rows, in the order of their places
   abbrev pub meaningOf : Result (Unit {0}) Fault
   meaningOf =
       onward (given (eqb (getD bs 0 0) 1) reason.Meaning 2 0) (λ _.
       onward (either (limitOf sizesIn constructorsIn) (Ok (tt {0})) (λ b. Err (limitFault l b))) (λ _.
-      onward (firstUnfair (λ i. either (nth functionsIn i) false (fairFunction (l .types .count) i)) (l .functions .start) 8 0 (l .functions .count)) (λ _.
-      firstUnfair (λ i. either (rowOf (take 16 (drop (i * 16) (within bs (l .rows))))) false (fairRow termsIn)) (l .rows .start) 16 0 (l .rows .count))))
+      onward (firstUnfair fairFunctionAt (l .functions .start) 8 0 (l .functions .count)) (λ _.
+      firstUnfair fairRowAt (l .rows .start) 16 0 (l .rows .count))))
 
   -- rows and first rows
   abbrev pub orderOf : Result (Unit {0}) Fault

@@ -17,6 +17,7 @@ ghost use Rattle.packed.specs.Shaped.{formsOf, sizesOf};
 ghost use Rattle.table.specs.Meaning.{recordsFrom, fieldsOf};
 ghost use Rattle.table.specs.Table.{limitFault, Small, sizesIn, constructorsIn, meaningOf, tableOf, told};
 ghost use Rattle.table.specs.Formed.{Formed};
+ghost use Rattle.table.specs.First.{First};
 ghost use Rattle.table.specs.Laid.{Laid};
 use crate::functions::Functions;
 use crate::judge::FunctionJudge;
@@ -188,6 +189,7 @@ fn ordered(rows: &Rows, functions: &Functions, start: usize) -> Result<(), Fault
 pub fn read(bytes: &[u8]) -> Result<Layout, Fault>
     ensures value { λ r. ⌜ r ≡ tableOf (now (bytes .entry)) ⌝ }
     ensures formed { λ r. ⌜ ((l : Layout) → r ≡ Ok l → Formed (now (bytes .entry)) l) × ((l : Layout) → Formed (now (bytes .entry)) l → r ≡ Ok l) ⌝ }
+    ensures first { λ r. ⌜ ((f : Fault) → r ≡ Err f → First (now (bytes .entry)) f) ⌝ }
 {
     let layout = layout(bytes)?;
     meaning(bytes, &layout)?;
