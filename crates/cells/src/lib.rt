@@ -1,4 +1,6 @@
 // Stores of cells: what a store means, and what each call of a store does to that meaning.
+#![tactic(auto)]
+
 mod copying;
 mod facts;
 mod store;

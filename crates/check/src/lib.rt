@@ -1,4 +1,6 @@
 // The check of a program table's types: what it accepts, and the first rule that is broken.
+#![tactic(auto)]
+
 mod arguments;
 mod checked;
 mod conditions;

@@ -1,4 +1,6 @@
 // Reads and packs the deepest trees that a region can hold. The gate runs it with the stack that a client has.
+#![tactic(auto)]
+
 use anyhow::anyhow;
 use packed::{Fault, Fields, Node, Shapes, pack, unpack};
 use std::alloc::{AllocError, Global};

@@ -1,4 +1,6 @@
 // The command-line tool over the library: a command on each line of the input, and an answer on each line of the output.
+#![tactic(auto)]
+
 mod answer;
 mod call_answer;
 mod calling;

@@ -1,5 +1,5 @@
 -- Bytes as a spelling of trees.
-use Rattle.std.proofs.Common.{◌≡◌, ℕ, zero, suc, ◌+◌, ◌-◌, ◌*◌, ◌<◌, ◌≤◌, List, [], ◌∷◌, ◌++◌, length, get_or, take, drop, replicate, Some, None, Ok, Err, Option, sym, refl, ap, ◌∙◌, subst, ⊎_elim, arith}
+use Rattle.std.proofs.Common.{◌≡◌, ℕ, zero, suc, ◌+◌, ◌*◌, ◌<◌, ◌≤◌, List, [], ◌∷◌, ◌++◌, length, get_or, take, drop, replicate, Some, None, Ok, Err, Option, sym, refl, ap, ◌∙◌, subst, ⊎_elim, arith}
 use Rattle.std.specs.List.{slice_get}
 use Rattle.std.proofs.lemmas.List.{drop_at, length-append, length-drop, length-replicate, take-append-drop}
 use Rattle.std.proofs.lemmas.Bool.{cases_lt}
@@ -13,7 +13,7 @@ use Rattle.packed.specs.Packing.{integers_in}
 use Rattle.packed.specs.Laws.{Spells, Finite, Leaves}
 use Rattle.packed.proofs.Fair.{form_of, form-named}
 use Rattle.packed.proofs.Scans.{tag_read, skip_all, skip-short}
-use Rattle.packed.proofs.Words.{after, read-after, read-moved, never}
+use Rattle.packed.proofs.Words.{read-after, read-moved, never}
 use Rattle.packed.proofs.Digits.{Bytes, eights-bytes, bytes-append, bytes_drop, length-eights, length-integers, fit-integers, eights-integers}
 use Rattle.packed.proofs.Growth.{Onward, Begun, tree-accepted, tree-ended, forest-accepted, tree-grown}
 use Rattle.packed.proofs.Least.{Known, known-append, forest-of, alive-after, leaves}

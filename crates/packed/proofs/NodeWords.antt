@@ -13,7 +13,7 @@ use Rattle.packed.specs.Laws.{Spells, Finite, Leaves}
 use Rattle.packed.proofs.Blanks.{padded-take, blank-padded}
 use Rattle.packed.proofs.Fair.{form_of, form-named}
 use Rattle.packed.proofs.Scans.{node-read}
-use Rattle.packed.proofs.Words.{after, read-after, read-moved, never}
+use Rattle.packed.proofs.Words.{read-after, read-moved, never}
 use Rattle.packed.proofs.Growth.{Onward, Begun, tree-accepted, tree-ended, forest-accepted, tree-grown}
 use Rattle.packed.proofs.Least.{Known, known-append, forest-of, alive-after, leaves}
 

@@ -1,4 +1,6 @@
 // Packed trees: the shapes of a program's types, nodes, and pack and unpack between nodes and bytes.
+#![tactic(auto)]
+
 mod bytes;
 mod constructor;
 mod fault;

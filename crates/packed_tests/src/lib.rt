@@ -1,4 +1,6 @@
 // Tests of packed trees, as tables: round trips, refusals, the limits of shapes, and a deep tree.
+#![tactic(auto)]
+
 #[cfg(test)]
 mod common;
 #[cfg(test)]

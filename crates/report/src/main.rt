@@ -1,5 +1,7 @@
 // Reports which of an office's deleted entries can still be brought back, and for how long: the office's list is
 // packed and unpacked, and the report is made from what was unpacked. Refused bytes are shown behind it.
+#![tactic(auto)]
+
 mod age;
 mod forms;
 mod laying;

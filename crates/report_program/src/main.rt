@@ -1,5 +1,7 @@
 // Shows a report as a program: its table is copied through a flat and a paged store, read and printed record by record, and
 // then damaged copies of it are checked and refused.
+#![tactic(auto)]
+
 mod damage;
 mod forms;
 mod listing;

@@ -1,4 +1,6 @@
 // Long lists of generated calls on both stores, against a model that is written apart: one line a store.
+#![tactic(auto)]
+
 mod call;
 mod draw;
 mod model;

@@ -1,4 +1,6 @@
 // The program table: bytes to sections, records and rows whose form is known to be right, or the first fault.
+#![tactic(auto)]
+
 mod decoding;
 mod encoding;
 mod function;

@@ -1,4 +1,6 @@
 // Judges program tables by their form: a command on each line of the input, and an answer on each line of the output.
+#![tactic(auto)]
+
 mod answer;
 mod hex;
 

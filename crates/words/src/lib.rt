@@ -1,4 +1,6 @@
 // The words of commands: text cut at separators, and numbers, bytes and nodes that are written as text.
+#![tactic(auto)]
+
 mod call;
 mod calls;
 mod hex;

@@ -1,5 +1,4 @@
 use Rattle.std.proofs.Common.{◌≡◌, length, get_or, pos, w64, SFits, rules}
-use Rattle.packed.specs.Trees.{Fit}
 use Rattle.packed.proofs.Blanks.{blank-test, fit-four}
 use Rattle.packed.proofs.nodes.blank_behind.Goals as goal
 

@@ -1,4 +1,4 @@
-use Rattle.std.proofs.Common.{◌≡◌, ◌+◌, ◌-◌, [], ◌∷◌, ◌++◌, length, get_or, take, drop, pos, sym, refl, ap, ◌∙◌, add-one, arith, w64, SFits, rules}
+use Rattle.std.proofs.Common.{◌≡◌, ◌+◌, [], ◌∷◌, ◌++◌, length, get_or, take, drop, pos, sym, refl, ap, ◌∙◌, add-one, arith, w64, SFits, rules}
 use Rattle.std.proofs.lemmas.List.{append_assoc, append-nil, set_split, take_more}
 use Rattle.std.proofs.lemmas.Int.{to_z-of_z}
 use Rattle.packed.specs.Trees.{eight, eights}
@@ -16,7 +16,7 @@ loop-i-preserved c word old f =
     let four : length c.args.node.now.integers ≡ 4 = search rules in
     let fit : SFits w64 (get_or c.args.node.now.integers c.loop-i.i (pos 0)) = search rules in
     let before = c.loop-i.invariant word old f in
-    let now = c.put-integer.ensures (word ++ eights (take i zs)) old before in
+    let now = c.put_integer.ensures (word ++ eights (take i zs)) old before in
     let z = to_z-of_z w64 (get_or zs i (pos 0)) fit in
     let words : (word ++ eights (take i zs)) ++ eight (get_or zs i (pos 0)) ≡ word ++ eights (take (i + 1) zs) =
     append_assoc word (eights (take i zs)) (eight (get_or zs i (pos 0)))

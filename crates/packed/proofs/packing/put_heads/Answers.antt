@@ -10,8 +10,8 @@ use Rattle.packed.proofs.packing.put_heads.Goals as goal
 pub loop-node-init : goal.loop-node-init
 loop-node-init c = (front-none c.args.out.now, omega arith)
 
-pub put-head-requires : goal.put-head-requires
-put-head-requires c =
+pub put_head-requires : goal.put_head-requires
+put_head-requires c =
     let g = forms_of c.args.shapes.now in
     let ns = c.args.nodes.now in
     let i = c.loop-node.node-index in
@@ -37,7 +37,7 @@ loop-node-preserved c =
     let parts = length-append (head_of g n) (bytes_of g (drop (i + 1) ns)) in
     let head = length-head g n (whole-at g ns i c.loop-node-test.true c.requires.whole) (omega arith) in
     let inv = c.loop-node.invariant.1 in
-    let now = c.put-head.ensures (bytes_of g (take i ns)) c.args.out.now c.loop-node.invariant.0 in
+    let now = c.put_head.ensures (bytes_of g (take i ns)) c.args.out.now c.loop-node.invariant.0 in
     (front_same (ap (λ m. bytes_of g (take i ns) ++ as_bytes n.constructor (take m n.integers)) k ∙ bytes-push g ns i c.loop-node-test.true) (omega arith) now, omega arith)
 
 pub returns : goal.returns

@@ -12,6 +12,6 @@ returns c word old f =
     let at = c.args.at in
     let k : at + (at + 8 - at) ≡ at + 8 = omega arith in
     let d = drop-drop (at + 8 - at) at xs ∙ ap (λ n. drop n xs) k in
-    let y : c.copy-from-slice.new.self ≡ eight c.args.z =
-    c.copy-from-slice.ensures.after ∙ c.to-le-bytes-bytes.ensures ∙ sym (low-eight (of_z w64 (to_z w64 (of_z w64 c.args.z)))) ∙ ap eight (to_z-of_z w64 c.args.z c.ranges.z) in
+    let y : c.copy_from_slice.new.self ≡ eight c.args.z =
+    c.copy_from_slice.ensures.after ∙ c.to_le_bytes-bytes.ensures ∙ sym (low-eight (of_z w64 (to_z w64 (of_z w64 c.args.z)))) ∙ ap eight (to_z-of_z w64 c.args.z c.ranges.z) in
     front-more word old at xs (eight c.args.z) _ 8 (length-low 8 (of_z w64 c.args.z)) (λ i. take at xs ++ (y i ++ d i)) f

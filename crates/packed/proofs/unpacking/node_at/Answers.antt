@@ -15,9 +15,9 @@ loop-i-preserved c =
     let zs = integers_in i bs in
     let z = integer (take 8 (drop (8 * i) bs)) in
     let long = length-integers i bs in
-    let fit : SFits w64 c.integer-at.result = search rules in
+    let fit : SFits w64 c.integer_at.result = search rules in
     let far = drop-drop (8 * i) (c.args.at + 1) c.args.bytes.now in
-    let read = to_z-of_z w64 c.integer-at.result fit ∙ c.integer-at.ensures.value ∙ ap (λ l. integer (take 8 l)) (sym far) in
+    let read = to_z-of_z w64 c.integer_at.result fit ∙ c.integer_at.ensures.value ∙ ap (λ l. integer (take 8 l)) (sym far) in
     (λ k. set (c.loop-i.invariant k) (sym long k) (read k))
     ∙ padded-push 4 zs z (omega arith)
     ∙ ap (padded 4) (sym (integers-push i bs))

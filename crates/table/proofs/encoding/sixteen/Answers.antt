@@ -7,4 +7,4 @@ pub returns : goal.returns
 returns c =
     let front = c.args.front.now in
     let long : length front - 0 ≡ length front = omega arith in
-    (λ i. c.copy-from-slice.ensures.after i ++ drop (long i) (padded 16 [])) ∙ padded-front 16 front c.requires
+    (λ i. c.copy_from_slice.ensures.after i ++ drop (long i) (padded 16 [])) ∙ padded-front 16 front c.requires

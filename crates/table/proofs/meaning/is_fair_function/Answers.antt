@@ -11,9 +11,9 @@ returns c =
     let few = le-leb f.parameters 4 (omega arith) in
     let rest : Bool → Bool = λ v. (((v && all (is_kind types) (take f.parameters f.kinds)) && unused (drop f.parameters f.kinds)) && is_kind types f.result) && (not (eqb c.args.number 0) || main_like types f) in
     let front : f.parameters - 0 ≡ f.parameters = omega arith in
-    let kinds = c.all-kinds-kinds.ensures.value ∙ ap (λ n. all (is_kind types) (take n f.kinds)) front in
+    let kinds = c.all_kinds-kinds.ensures.value ∙ ap (λ n. all (is_kind types) (take n f.kinds)) front in
     record {
       value =
-          (λ i. ((kinds i && c.unused-behind-behind.ensures.value i) && c.is-kind-result.ensures.value i) && (not (eqb c.args.number 0) || c.is-main-like-main.ensures.value i))
+          (λ i. ((kinds i && c.unused_behind-behind.ensures.value i) && c.is_kind-result.ensures.value i) && (not (eqb c.args.number 0) || c.is_main_like-main.ensures.value i))
           ∙ sym (ap rest few);
     }

@@ -4,19 +4,19 @@ use Rattle.table.specs.Order.{branch}
 use Rattle.table.proofs.Walking.{inside, from-none, from_row, branch-goes}
 use Rattle.table.proofs.order.branch_at.Goals as goal
 
-pub returns-in-default : goal.returns-in-default
-returns-in-default c = record {
+pub returns-in_default : goal.returns-in_default
+returns-in_default c = record {
   inside = tt;
-  goes = λ due. from-none (rows_of c.args.rows.now) c.args.walk branch due refl (sym c.in-default.ensures.value) ∙ sym c.lower.ensures.value;
+  goes = λ due. from-none (rows_of c.args.rows.now) c.args.walk branch due refl (sym c.in_default.ensures.value) ∙ sym c.lower.ensures.value;
 }
 
-pub returns-in-Some-further-of : goal.returns-in-Some-further-of
-returns-in-Some-further-of c =
+pub returns-in-Some-further_of : goal.returns-in-Some-further_of
+returns-in-Some-further_of c =
     let whole = c.args.rows.now.whole in
     let few = c.args.rows.now.few in
     record {
       inside = inside (rows_of c.args.rows.now) c.args.walk.end c.in-Some.row c.in-Some.ensures.value (omega arith);
-      goes = branch-goes (rows_of c.args.rows.now) c.args.walk c.in-Some.row c.in-Some-further-of.further c.in-Some.ensures.value (c.in-Some-further-of.ensures.due c.args.walk.end);
+      goes = branch-goes (rows_of c.args.rows.now) c.args.walk c.in-Some.row c.in-Some-further_of.further c.in-Some.ensures.value (c.in-Some-further_of.ensures.due c.args.walk.end);
     }
 
 pub returns-in-None : goal.returns-in-None

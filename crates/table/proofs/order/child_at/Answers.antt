@@ -4,19 +4,19 @@ use Rattle.table.specs.Order.{child}
 use Rattle.table.proofs.Walking.{inside, from-none, from_row, child-goes}
 use Rattle.table.proofs.order.child_at.Goals as goal
 
-pub returns-in-default : goal.returns-in-default
-returns-in-default c = record {
+pub returns-in_default : goal.returns-in_default
+returns-in_default c = record {
   inside = tt;
-  goes = λ due. from-none (rows_of c.args.rows.now) c.args.walk child due refl (sym c.in-default.ensures.value) ∙ sym c.lower.ensures.value;
+  goes = λ due. from-none (rows_of c.args.rows.now) c.args.walk child due refl (sym c.in_default.ensures.value) ∙ sym c.lower.ensures.value;
 }
 
-pub returns-in-Some-hanging-on : goal.returns-in-Some-hanging-on
-returns-in-Some-hanging-on c =
+pub returns-in-Some-hanging_on : goal.returns-in-Some-hanging_on
+returns-in-Some-hanging_on c =
     let whole = c.args.rows.now.whole in
     let few = c.args.rows.now.few in
     record {
       inside = inside (rows_of c.args.rows.now) c.args.walk.end c.in-Some.row c.in-Some.ensures.value (omega arith);
-      goes = child-goes (rows_of c.args.rows.now) c.args.walk c.in-Some.row c.in-Some-hanging-on.hanging c.in-Some.ensures.value (c.in-Some-hanging-on.ensures.due c.args.walk.end);
+      goes = child-goes (rows_of c.args.rows.now) c.args.walk c.in-Some.row c.in-Some-hanging_on.hanging c.in-Some.ensures.value (c.in-Some-hanging_on.ensures.due c.args.walk.end);
     }
 
 pub returns-in-None : goal.returns-in-None

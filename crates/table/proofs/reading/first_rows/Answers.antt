@@ -20,9 +20,9 @@ loop-f-preserved c =
     let inv = c.loop-f.invariant in
     let count = c.len-f-end.ensures.value in
     let here = slice_get-get_or fs f blank (omega arith) in
-    let one = given-first (get_or fs f blank) c.first-row.result (c.first-row.ensures.value ∙ ap (option_map (λ g. g.first)) here) in (
-      length-set c.loop-f.firsts f c.first-row.result ∙ inv.0,
-      take_more_set c.loop-f.firsts f c.first-row.result (omega arith) ∙ (λ i. inv.1 i ++ one i ∷ []) ∙ sym (map_more (λ g. g.first) fs f blank (omega arith)),
+    let one = given-first (get_or fs f blank) c.first_row.result (c.first_row.ensures.value ∙ ap (option_map (λ g. g.first)) here) in (
+      length-set c.loop-f.firsts f c.first_row.result ∙ inv.0,
+      take_more_set c.loop-f.firsts f c.first_row.result (omega arith) ∙ (λ i. inv.1 i ++ one i ∷ []) ∙ sym (map_more (λ g. g.first) fs f blank (omega arith)),
     )
 
 pub returns : goal.returns

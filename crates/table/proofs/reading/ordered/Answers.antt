@@ -17,14 +17,14 @@ module _ (functions : List Function) (firsts : List ℕ) (count : ℕ) (counted 
 in_rows : (firsts : List ℕ) (rows : List Row) (n : ℕ) → Some n ≡ disorder (bodies firsts) rows 0 → length rows ≤ 1024 → n ≤ 1024
 in_rows firsts rows n e h = let b = disorder-bound firsts rows n (sym e) in omega arith
 
-pub overflow-mul-n : goal.overflow-mul-n
-overflow-mul-n c =
+pub overflow_mul-n : goal.overflow_mul-n
+overflow_mul-n c =
     let s = c.args.rows.now in
     let b = in_rows _ (rows_of s) c.in-Some.n c.in-Some.ensures.value (let w = s.whole in let f = s.few in omega arith) in
     record { fits = omega arith }
 
-pub overflow-add-start : goal.overflow-add-start
-overflow-add-start c =
+pub overflow_add-start : goal.overflow_add-start
+overflow_add-start c =
     let s = c.args.rows.now in
     let b = in_rows _ (rows_of s) c.in-Some.n c.in-Some.ensures.value (let w = s.whole in let f = s.few in omega arith) in
     let low = c.requires in
@@ -33,7 +33,7 @@ overflow-add-start c =
 pub returns-in-Some : goal.returns-in-Some
 returns-in-Some c =
     let fs = functions_of c.args.functions.now in
-    let same = firsts_same fs c.first-rows-firsts.result c.len.result c.len.ensures.value c.first-rows-firsts.ensures.front in
+    let same = firsts_same fs c.first_rows-firsts.result c.len.result c.len.ensures.value c.first_rows-firsts.ensures.front in
     record {
       value =
           ap Err c.fault.ensures.value
@@ -43,7 +43,7 @@ returns-in-Some c =
 pub returns-in-None : goal.returns-in-None
 returns-in-None c =
     let fs = functions_of c.args.functions.now in
-    let same = firsts_same fs c.first-rows-firsts.result c.len.result c.len.ensures.value c.first-rows-firsts.ensures.front in
+    let same = firsts_same fs c.first_rows-firsts.result c.len.result c.len.ensures.value c.first_rows-firsts.ensures.front in
     record {
       value = ap (λ o. either o (Ok (tt {0})) (λ n. Err (found reason.RowOrder 2 (c.args.start + n * 16)))) (c.in-None.ensures.value ∙ ap (λ l. disorder (bodies l) (rows_of c.args.rows.now) 0) same);
     }

@@ -7,27 +7,27 @@ use Rattle.table.proofs.Meanings.{meaning-whole}
 use Rattle.table.proofs.reading.parts.Goals as goal
 
 pub meaning-requires : goal.meaning-requires
-meaning-requires c = laid c.args.bytes.now c.in-ok-layout.layout (sym c.in-ok-layout.ensures.value)
+meaning-requires c = laid c.args.bytes.now c.in_ok-layout.layout (sym c.in_ok-layout.ensures.value)
 
-pub functions-in-functions-requires : goal.functions-in-functions-requires
-functions-in-functions-requires c = laid c.args.bytes.now c.in-ok-layout.layout (sym c.in-ok-layout.ensures.value)
+pub functions_in-functions-requires : goal.functions_in-functions-requires
+functions_in-functions-requires c = laid c.args.bytes.now c.in_ok-layout.layout (sym c.in_ok-layout.ensures.value)
 
-pub rows-in-rows-requires : goal.rows-in-rows-requires
-rows-in-rows-requires c =
+pub rows_in-rows-requires : goal.rows_in-rows-requires
+rows_in-rows-requires c =
     let bs = c.args.bytes.now in
-    let l = c.in-ok-layout.layout in
-    let fine = laid bs l (sym c.in-ok-layout.ensures.value) in
-    record { laid = fine; whole = meaning-whole bs l fine tt (sym c.in-ok-shapes.ensures.value) }
+    let l = c.in_ok-layout.layout in
+    let fine = laid bs l (sym c.in_ok-layout.ensures.value) in
+    record { laid = fine; whole = meaning-whole bs l fine tt (sym c.in_ok-shapes.ensures.value) }
 
-pub returns-in-err-ordered : goal.returns-in-err-ordered
-returns-in-err-ordered c =
+pub returns-in_err-ordered : goal.returns-in_err-ordered
+returns-in_err-ordered c =
     let bs = c.args.bytes.now in
-    let l = c.in-ok-layout.layout in
-    let p = err_from_is_err_and c.from-residual-in-err-ordered.result c.from-residual-in-err-ordered.ensures.1 in
-    let out = sym c.in-err-ordered.was ∙ c.ordered.ensures.value in
+    let l = c.in_ok-layout.layout in
+    let p = err_from_is_err_and c.from_residual-in_err-ordered.result c.from_residual-in_err-ordered.ensures.1 in
+    let out = sym c.in_err-ordered.was ∙ c.ordered.ensures.value in
     record {
       value =
           ap laid_out (p.1 ∙ ap Err p.2)
-          ∙ order-refused bs l tt _ _ c.in-err-ordered.field-0.0 c.in-ok-layout.ensures.value c.in-ok-shapes.ensures.value c.functions-in-functions.ensures.value c.rows-in-rows.ensures.value out;
-      made = IfOk-from_err c.from-residual-in-err-ordered.result _ c.from-residual-in-err-ordered.ensures.0;
+          ∙ order-refused bs l tt _ _ c.in_err-ordered.field-0.0 c.in_ok-layout.ensures.value c.in_ok-shapes.ensures.value c.functions_in-functions.ensures.value c.rows_in-rows.ensures.value out;
+      made = IfOk-from_err c.from_residual-in_err-ordered.result _ c.from_residual-in_err-ordered.ensures.0;
     }

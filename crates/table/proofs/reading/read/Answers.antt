@@ -5,12 +5,12 @@ use Rattle.table.proofs.Firsting.{firsting}
 use Rattle.table.proofs.Refusing.{refusing}
 use Rattle.table.proofs.reading.read.Goals as goal
 
-pub returns-in-err-parts : goal.returns-in-err-parts
-returns-in-err-parts c =
-    let value : c.from-residual.result ≡ table_of c.args.bytes.now = search rules in
-    record { value = value; formed = forming c.args.bytes.now c.from-residual.result value; first = firsting c.args.bytes.now c.from-residual.result value; only = refusing c.args.bytes.now c.from-residual.result value }
+pub returns-in_err-parts : goal.returns-in_err-parts
+returns-in_err-parts c =
+    let value : c.from_residual.result ≡ table_of c.args.bytes.now = search rules in
+    record { value = value; formed = forming c.args.bytes.now c.from_residual.result value; first = firsting c.args.bytes.now c.from_residual.result value; only = refusing c.args.bytes.now c.from_residual.result value }
 
 pub returns : goal.returns
 returns c =
-    let value : Ok c.in-ok-parts.parts.layout ≡ table_of c.args.bytes.now = search rules in
-    record { value = value; formed = forming c.args.bytes.now (Ok c.in-ok-parts.parts.layout) value; first = firsting c.args.bytes.now (Ok c.in-ok-parts.parts.layout) value; only = refusing c.args.bytes.now (Ok c.in-ok-parts.parts.layout) value }
+    let value : Ok c.in_ok-parts.parts.layout ≡ table_of c.args.bytes.now = search rules in
+    record { value = value; formed = forming c.args.bytes.now (Ok c.in_ok-parts.parts.layout) value; first = firsting c.args.bytes.now (Ok c.in_ok-parts.parts.layout) value; only = refusing c.args.bytes.now (Ok c.in_ok-parts.parts.layout) value }

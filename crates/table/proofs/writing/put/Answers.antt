@@ -12,5 +12,5 @@ returns c =
           let at = c.args.at in
           let k : c.args.at + (c.args.at + length c.args.bytes.now - c.args.at) ≡ c.args.at + length c.args.bytes.now = omega arith in
           let d = drop-drop (at + length bs - at) at xs ∙ ap (λ n. drop n xs) k in
-          front-more word old at xs bs _ (length bs) refl (λ i. take at xs ++ (c.copy-from-slice.ensures.after i ++ d i)) f;
+          front-more word old at xs bs _ (length bs) refl (λ i. take at xs ++ (c.copy_from_slice.ensures.after i ++ d i)) f;
     }

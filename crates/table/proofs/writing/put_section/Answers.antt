@@ -11,6 +11,6 @@ returns g c =
     let end = ap (λ n. c.args.at + 2 + length xs * n) c.stride.ensures.value in
     record {
       end = end;
-      after = λ word old f. front_same (append_assoc word (low 2 (length xs)) (spelt g.T.Spelled.spell xs)) (sym end) (c.put-records.ensures.after (word ++ low 2 (length xs)) old (c.put-count.ensures.after word old f));
-      back = c.put-records.ensures.back;
+      after = λ word old f. front_same (append_assoc word (low 2 (length xs)) (spelt g.T.Spelled.spell xs)) (sym end) (c.put_records.ensures.after (word ++ low 2 (length xs)) old (c.put_count.ensures.after word old f));
+      back = c.put_records.ensures.back;
     }

@@ -17,7 +17,7 @@ returns c =
     let bytes = table_bytes sizes fields functions rows in
     let out = c.args.out.now in
     let long = length-table sizes fields functions rows in
-    let put = c.put-table.ensures in
+    let put = c.put_table.ensures in
     let value : ◌≡◌ {A = Result ℕ Fault} (Ok (table_length c.args.sizes.now c.args.fields.now c.args.functions.now c.args.rows.now)) (write_of c.args.sizes.now c.args.fields.now c.args.functions.now c.args.rows.now (length c.args.out.now)) = search rules in
     let after = put.after ∙ ap (λ n. bytes ++ drop n out) long in
     record {

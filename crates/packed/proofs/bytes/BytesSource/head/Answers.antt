@@ -1,4 +1,4 @@
-use Rattle.std.proofs.Common.{ℕ, ◌+◌, ◌<◌, ◌++◌, length, get_or, drop, sym, ap, ◌∙◌, arith, rules}
+use Rattle.std.proofs.Common.{ℕ, ◌+◌, ◌<◌, ◌++◌, get_or, drop, sym, ap, ◌∙◌, arith, rules}
 use Rattle.packed.specs.Forms.{subtrees}
 use Rattle.packed.specs.Shaped.{forms_of}
 use Rattle.packed.specs.Reading.{left, read_bytes}
@@ -12,10 +12,10 @@ returns-then-at-bytes c = record {
   seen = λ i h l. absurd (omega arith);
 }
 
-pub returns-in-default : goal.returns-in-default
-returns-in-default c = record {
+pub returns-in_default : goal.returns-in_default
+returns-in_default c = record {
   within = (omega arith, omega arith);
-  goes = λ due. bytes-none (forms_of c.args.shapes.now) c.args.ty due c.args.self.now.bytes.now c.args.at (omega arith) (sym c.in-default.ensures.value);
+  goes = λ due. bytes-none (forms_of c.args.shapes.now) c.args.ty due c.args.self.now.bytes.now c.args.at (omega arith) (sym c.in_default.ensures.value);
   seen = λ i h l. absurd (omega arith);
 }
 
@@ -37,6 +37,6 @@ returns c =
       within = (omega arith, omega arith, c.in-Some.ensures.cases.1);
       goes = λ due.
           bytes-head g c.args.ty due c.args.self.now.bytes.now c.args.at k (omega arith) (sym c.in-Some.ensures.value) (omega arith)
-          ∙ ap (λ n. read_bytes g (left 0 (subtrees k ++ due)) (drop (c.args.at + n) c.args.self.now.bytes.now) (c.args.at + n)) (sym c.head-len-length.ensures.value);
+          ∙ ap (λ n. read_bytes g (left 0 (subtrees k ++ due)) (drop (c.args.at + n) c.args.self.now.bytes.now) (c.args.at + n)) (sym c.head_len-length.ensures.value);
       seen = λ i h l. each i;
     }

@@ -12,8 +12,8 @@ blank = record { integers = 0; subtrees = 0; types = [] }
 pub bounds-sizes-of : goal.bounds-sizes-of
 bounds-sizes-of c = next _ _ _ _ _ _ c.loop-i.invariant c.if-left-eq0.true c.loop-i-test.true
 
-pub overflow-sub-left : goal.overflow-sub-left
-overflow-sub-left c =
+pub overflow_sub-left : goal.overflow_sub-left
+overflow_sub-left c =
     let at : Ready c.args.sizes.now c.args.fields.now c.if-left-eq0.of c.if-left-eq0.left c.loop-i.i c.loop-i.constructors =
     elim c.if-left-eq0.branch [
       | then-left-eq0 w ↦ alike w.of-is w.left-is (moved _ _ _ _ _ _ c.loop-i.invariant w.if-left-eq0.true c.loop-i-test.true c.requires.sized)

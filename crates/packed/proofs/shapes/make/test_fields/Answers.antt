@@ -12,14 +12,14 @@ blank = record { integers = 0; subtrees = 0; types = [] }
 abbrev answer : Option Limit → Result (Unit {0}) Limit
 answer o = either o (Ok tt) Err
 
-pub returns-then-not-is-fair : goal.returns-then-not-is-fair
-returns-then-not-is-fair c =
-    let stop = fields-stop c.args.types c.args.fields.now c.loop-number.number blank c.loop-number-test.true (sym c.if-not-is-fair.ensures) in
+pub returns-then-not-is_fair : goal.returns-then-not-is_fair
+returns-then-not-is_fair c =
+    let stop = fields-stop c.args.types c.args.fields.now c.loop-number.number blank c.loop-number-test.true (sym c.if-not-is_fair.ensures) in
     ap answer (sym stop ∙ c.loop-number.invariant)
 
 pub loop-number-preserved : goal.loop-number-preserved
 loop-number-preserved c =
-    let more = fields-more c.args.types c.args.fields.now c.loop-number.number blank c.loop-number-test.true (sym c.if-not-is-fair.ensures) in
+    let more = fields-more c.args.types c.args.fields.now c.loop-number.number blank c.loop-number-test.true (sym c.if-not-is_fair.ensures) in
     sym more ∙ c.loop-number.invariant
 
 pub returns : goal.returns

@@ -5,5 +5,5 @@ use Rattle.table.proofs.row.Row.encode.Goals as goal
 
 pub returns : goal.returns
 returns c =
-    let made = c.bytes-of.ensures in
+    let made = c.bytes_of.ensures in
     record { value = made.value; back = ap row_of made.value ∙ row-of-bytes c.args.self.now made.held }
