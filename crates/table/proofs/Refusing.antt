@@ -44,10 +44,10 @@ module _ (width : ℕ) (bs : List ℕ) (at : ℕ) where
 
 -- the sections in front of a place where a section is due
 data Chain (bs : List ℕ) : ℕ → ℕ → Type 0 where
-  none : Chain bs 1 1
-  one : {t : Section} → Lies 1 bs 1 t → Chain bs 6 t.end
-  two : {t c : Section} → Lies 1 bs 1 t → Lies 6 bs t.end c → Chain bs 8 c.end
-  three : {t c f : Section} → Lies 1 bs 1 t → Lies 6 bs t.end c → Lies 8 bs c.end f → Chain bs 16 f.end
+  at-types : Chain bs 1 1
+  at-constructors : {t : Section} → Lies 1 bs 1 t → Chain bs 6 t.end
+  at-functions : {t c : Section} → Lies 1 bs 1 t → Lies 6 bs t.end c → Chain bs 8 c.end
+  at-rows : {t c f : Section} → Lies 1 bs 1 t → Lies 6 bs t.end c → Lies 8 bs c.end f → Chain bs 16 f.end
 
 reached-some : (bs : List ℕ) (width at : ℕ) → Reached bs width at → 1 ≤ length bs
 reached-some bs _ _ (reached-types s) = s
@@ -56,20 +56,20 @@ reached-some bs _ _ (reached-functions {at} {c} r lc) = reached-some bs 6 at r
 reached-some bs _ _ (reached-rows {at} {f} r lf) = reached-some bs 8 at r
 
 chain-two : (bs : List ℕ) (c : Section) (width at : ℕ) → Chain bs width at → width ≡ 6 → Lies 6 bs at c → Chain bs 8 c.end
-chain-two bs c _ _ none e lc = absurd (omega arith)
-chain-two bs c _ _ (one lt) e lc = two lt lc
-chain-two bs c _ _ (two lt l) e lc = absurd (omega arith)
-chain-two bs c _ _ (three lt l lf) e lc = absurd (omega arith)
+chain-two bs c _ _ at-types e lc = absurd (omega arith)
+chain-two bs c _ _ (at-constructors lt) e lc = at-functions lt lc
+chain-two bs c _ _ (at-functions lt l) e lc = absurd (omega arith)
+chain-two bs c _ _ (at-rows lt l lf) e lc = absurd (omega arith)
 
 chain-three : (bs : List ℕ) (f : Section) (width at : ℕ) → Chain bs width at → width ≡ 8 → Lies 8 bs at f → Chain bs 16 f.end
-chain-three bs f _ _ none e lf = absurd (omega arith)
-chain-three bs f _ _ (one lt) e lf = absurd (omega arith)
-chain-three bs f _ _ (two lt lc) e lf = three lt lc lf
-chain-three bs f _ _ (three lt lc l) e lf = absurd (omega arith)
+chain-three bs f _ _ at-types e lf = absurd (omega arith)
+chain-three bs f _ _ (at-constructors lt) e lf = absurd (omega arith)
+chain-three bs f _ _ (at-functions lt lc) e lf = at-rows lt lc lf
+chain-three bs f _ _ (at-rows lt lc l) e lf = absurd (omega arith)
 
 chain-of : (bs : List ℕ) (width at : ℕ) → Reached bs width at → Chain bs width at
-chain-of bs _ _ (reached-types s) = none
-chain-of bs _ _ (reached-constructors r lt) = one lt
+chain-of bs _ _ (reached-types s) = at-types
+chain-of bs _ _ (reached-constructors r lt) = at-constructors lt
 chain-of bs _ _ (reached-functions {at} {c} r lc) = chain-two bs c 6 at (chain-of bs 6 at r) refl lc
 chain-of bs _ _ (reached-rows {at} {f} r lf) = chain-three bs f 8 at (chain-of bs 8 at r) refl lf
 
@@ -84,19 +84,19 @@ some-on : (bs : List ℕ) → 1 ≤ length bs → given (leb 1 (length bs)) reas
 some-on bs s = give-on (leb 1 (length bs)) reason.BytesEnd 1 0 (le-leb 1 (length bs) s)
 
 chain-refused : (bs : List ℕ) (width at : ℕ) (f : Fault) → 1 ≤ length bs → Chain bs width at → section_of width bs at ≡ Err f → sections_of bs ≡ Err f
-chain-refused bs _ _ f s none e =
+chain-refused bs _ _ f s at-types e =
     go_on (given (leb 1 (length bs)) reason.BytesEnd 1 0) _ tt (Err f) (some-on bs s)
     (stop-at (section_of 1 bs 1) _ f e)
-chain-refused bs _ _ f s (one {t} lt) e =
+chain-refused bs _ _ f s (at-constructors {t} lt) e =
     go_on (given (leb 1 (length bs)) reason.BytesEnd 1 0) _ tt (Err f) (some-on bs s)
     (go_on (section_of 1 bs 1) _ t (Err f) (section-found 1 bs 1 t (omega arith) lt)
     (stop-at (section_of 6 bs t.end) _ f e))
-chain-refused bs _ _ f s (two {t} {c} lt lc) e =
+chain-refused bs _ _ f s (at-functions {t} {c} lt lc) e =
     go_on (given (leb 1 (length bs)) reason.BytesEnd 1 0) _ tt (Err f) (some-on bs s)
     (go_on (section_of 1 bs 1) _ t (Err f) (section-found 1 bs 1 t (omega arith) lt)
     (go_on (section_of 6 bs t.end) _ c (Err f) (section-found 6 bs t.end c (omega arith) lc)
     (stop-at (section_of 8 bs c.end) _ f e)))
-chain-refused bs _ _ why s (three {t} {c} {f} lt lc lf) e =
+chain-refused bs _ _ why s (at-rows {t} {c} {f} lt lc lf) e =
     go_on (given (leb 1 (length bs)) reason.BytesEnd 1 0) _ tt (Err why) (some-on bs s)
     (go_on (section_of 1 bs 1) _ t (Err why) (section-found 1 bs 1 t (omega arith) lt)
     (go_on (section_of 6 bs t.end) _ c (Err why) (section-found 6 bs t.end c (omega arith) lc)

@@ -3,8 +3,8 @@ use Rattle.table.specs.Held.{rows_of}
 use Rattle.table.proofs.order.+read_branches_read_child.Given as goal
 
 -- each call leaves fewer rows to read
-abbrev pub decreases-read-branches : goal.decreases-read-branches
-decreases-read-branches l = length (rows_of l.rows.now) - l.walk.end
+abbrev pub decreases-read_branches : goal.decreases-read_branches
+decreases-read_branches l = length (rows_of l.rows.now) - l.walk.end
 
-abbrev pub decreases-read-child : goal.decreases-read-child
-decreases-read-child l = length (rows_of l.rows.now) - l.walk.end
+abbrev pub decreases-read_child : goal.decreases-read_child
+decreases-read_child l = length (rows_of l.rows.now) - l.walk.end
