@@ -7,7 +7,7 @@ use Rattle.table.specs.Sections.{onward}
 use Rattle.table.specs.Table.{table_of}
 use Rattle.table.specs.Tabled.{bytes_of}
 use Rattle.table.proofs.Tabling.{table-read}
-use Rattle.check.specs.Checking.{check_of}
+use Rattle.checker.specs.Checking.{check_of}
 use Rattle.localtool.specs.Programs.{Types, types_in, judged_of, held, shown}
 
 abbrev right : Types → Result Types Fault

@@ -5,7 +5,7 @@ use Rattle.packed.specs.declared.fault.Fault.{Fault}
 use Rattle.packed.specs.declared.node.Node.{Node}
 use Rattle.packed.specs.Forms.{either}
 use Rattle.packed.specs.Packing.{bytes_of, nodes_of, pack_of, unpack_of}
-use Rattle.check.specs.Checking.{check_of}
+use Rattle.checker.specs.Checking.{check_of}
 use Rattle.localtool.specs.declared.answer.Answer.{Answer}
 use Rattle.localtool.specs.declared.answer.Answer.TheVariants as answer
 use Rattle.localtool.specs.declared.call_answer.CallAnswer.{CallAnswer}

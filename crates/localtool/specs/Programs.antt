@@ -7,7 +7,7 @@ use Rattle.table.specs.declared.section.Layout.{Layout}
 use Rattle.table.specs.declared.table.Table.{Table}
 use Rattle.table.specs.Sections.{onward}
 use Rattle.table.specs.Table.{constructors_in, sizes_in, table_of}
-use Rattle.check.specs.Checking.{check_of, forms_held, types_held}
+use Rattle.checker.specs.Checking.{check_of, forms_held, types_held}
 
 -- the constructors, by number, and how many types there are
 pub record Types : Type 0 where

@@ -1,10 +1,10 @@
 // check TABLE: whether a program may run.
 ghost use Rattle.std.specs.Prelude.{◌≡◌, IfOk};
-ghost use Rattle.check.specs.Checking.{check_of};
+ghost use Rattle.checker.specs.Checking.{check_of};
 ghost use Rattle.localtool.specs.Answers.{check_reply, checked_reply, reply_in};
 
 use crate::answer::Answer;
-use check::Checked;
+use checker::Checked;
 use std::alloc::{AllocError, Global};
 use words::bytes_written;
 

@@ -2,7 +2,7 @@
 ghost use Rattle.std.specs.Prelude.{◌≡◌};
 ghost use Rattle.localtool.specs.Programs.{judged_of, shown};
 
-use check::Checked;
+use checker::Checked;
 use packed::Fault;
 
 // Holds a table from then on if the check accepts it.

@@ -6,7 +6,7 @@ ghost use Rattle.localtool.specs.Programs.{held, judged_of};
 use crate::answer::Answer;
 use crate::operands::{last, request};
 use crate::program::judge;
-use check::Checked;
+use checker::Checked;
 use packed::Node;
 use std::alloc::{AllocError, Global};
 use words::bytes_written;

@@ -3,7 +3,7 @@ use crate::damage::with_byte;
 use crate::listing::{ListedConstructor, ListedFunction, ListedRow, ListedType};
 use crate::show::Refusal;
 use crate::trouble::Trouble;
-use check::Checked;
+use checker::Checked;
 use table::{Layout, Table};
 
 // Places in the rows of the program that is written here, from the first row on: where row 1 names the row of its body, which

@@ -8,12 +8,12 @@ use Rattle.cells.proofs.Copies.{hold-is, held-got, copied_is, copy-refusal, copy
 use Rattle.cells.proofs.copying.copy_through.Goals as goal
 
 pub fetch-requires : goal.fetch-requires
-fetch-requires g c κs i h =
+fetch-requires g c i h =
     let m = g.S.Store.meaning c.args.store.now in
     let m' = g.S.Store.meaning c.hold.new.store in
     let bytes = c.args.bytes.now in
-    let k = c.in-ok-number.number in
-    let o = hold-is m m' k bytes (sym c.in-ok-number.was ∙ c.hold.ensures.value) c.hold.ensures.after in
+    let k = c.in_ok-number.number in
+    let o = hold-is m m' k bytes (sym c.in_ok-number.was ∙ c.hold.ensures.value) c.hold.ensures.after in
     let n = length-take-le (length bytes) c.args.back.now (omega arith) in
     rw (o.2, o.1) (held-got m bytes i (omega arith))
 
@@ -22,8 +22,8 @@ returns g c =
     let m = g.S.Store.meaning c.args.store.now in
     let m' = g.S.Store.meaning c.hold.new.store in
     let bytes = c.args.bytes.now in
-    let k = c.in-ok-number.number in
-    let v = sym c.in-ok-number.was ∙ c.hold.ensures.value in
+    let k = c.in_ok-number.number in
+    let v = sym c.in_ok-number.was ∙ c.hold.ensures.value in
     let o = hold-is m m' k bytes v c.hold.ensures.after in
     let fits : length bytes ≤ length c.args.back.now = omega arith in
     record {

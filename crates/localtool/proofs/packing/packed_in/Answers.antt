@@ -1,7 +1,7 @@
 use Rattle.std.proofs.Common.{◌≡◌, length, take, drop, vec_items, ap, ◌∙◌, rules}
 use Rattle.std.proofs.lemmas.List.{with_items_is}
 use Rattle.packed.specs.Packing.{bytes_of, pack_of}
-use Rattle.check.specs.Checking.{forms_held, types_held}
+use Rattle.checker.specs.Checking.{forms_held, types_held}
 use Rattle.localtool.proofs.Filled.{packed-long, front}
 use Rattle.localtool.proofs.Replying.{packed-replied}
 use Rattle.localtool.proofs.packing.packed_in.Goals as goal

@@ -1,7 +1,7 @@
 use Rattle.std.proofs.Common.{◌≡◌, length, take, drop, vec_items, ap, ◌∙◌, rules}
 use Rattle.std.proofs.lemmas.List.{with_items_is}
 use Rattle.packed.specs.Packing.{nodes_of, unpack_of}
-use Rattle.check.specs.Checking.{forms_held, types_held}
+use Rattle.checker.specs.Checking.{forms_held, types_held}
 use Rattle.localtool.proofs.Filled.{unpacked-long, front}
 use Rattle.localtool.proofs.Replying.{unpacked-replied}
 use Rattle.localtool.proofs.unpacking.unpacked_in.Goals as goal

@@ -7,7 +7,7 @@ pub returns-in-None : goal.returns-in-None
 returns-in-None c = record {
   value =
       digits-bad c.args.limit c.loop-c.n c.args.text.now c.loop-c.c-index c.loop-c-test.true c.in-None.ensures.value c.loop-c.invariant.1
-      ∙ ap (λ b. cond b None (digits_of c.args.limit 0 c.args.text.now)) c.if-is-empty.ensures;
+      ∙ ap (λ b. cond b None (digits_of c.args.limit 0 c.args.text.now)) c.if-is_empty.ensures;
   bound = tt;
 }
 
@@ -21,6 +21,6 @@ pub returns : goal.returns
 returns c = record {
   value =
       digits-all c.args.limit c.loop-c.n c.args.text.now c.loop-c.c-index c.loop-c-test.false c.loop-c.invariant.1
-      ∙ ap (λ b. cond b None (digits_of c.args.limit 0 c.args.text.now)) c.if-is-empty.ensures;
+      ∙ ap (λ b. cond b None (digits_of c.args.limit 0 c.args.text.now)) c.if-is_empty.ensures;
   bound = c.loop-c.invariant.0;
 }

@@ -1,8 +1,0 @@
-use Rattle.std.proofs.Common.{◌≡◌, drop}
-use Rattle.table.specs.Held.{functions_of}
-use Rattle.check.specs.Described.{program_of}
-use Rattle.check.specs.Verdict.{bodies_of, verdict_of}
-use Rattle.check.proofs.descent.Descent.bodies.Given as goal
-
-abbrev pub invariant-loop-i : goal.invariant-loop-i
-invariant-loop-i l = bodies_of (program_of l.self) (drop l.i (functions_of l.self.functions)) ≡ verdict_of (program_of l.self)

@@ -1,6 +1,0 @@
-use Rattle.std.proofs.Common.{◌≡◌, ◌-◌}
-use Rattle.check.specs.Contexts.{entered}
-use Rattle.check.proofs.functions.begin.Given as goal
-
-abbrev pub invariant-loop-j : goal.invariant-loop-j
-invariant-loop-j l = entered l.cx l.function.kinds l.j (l.function.parameters - l.j) ≡ entered l.initial.cx l.function.kinds 0 l.function.parameters
