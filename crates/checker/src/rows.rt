@@ -20,7 +20,7 @@ use table::Row;
 
 impl<'a> Descent<'a> {
     // Row `at` and what hangs on it.
-    #[cycle(after_row_branch_branch_at_case_row_follow_follow_on_later_let_row_locate_past_row_region_row_row_start_row_term_test_row)]
+    #[cycle(descend)]
     pub fn term(&self, at: usize, cx: &mut Context) -> Result<Kind, Fault>
         ensures gives { (f : ℕ) → length (rows_of self.now.rows) ≤ at + f → Gives result cx.new (term_of (program_of self.now) f at cx.old) }
     {
@@ -33,7 +33,7 @@ impl<'a> Descent<'a> {
         }
     }
 
-    #[cycle(after_row_branch_branch_at_case_row_follow_follow_on_later_let_row_locate_past_row_region_row_row_start_row_term_test_row)]
+    #[cycle(descend)]
     fn row(&self, at: usize, row: Row, cx: &mut Context) -> Result<Kind, Fault>
         requires { (at < length (rows_of self.now.rows)) × (at < 1024) }
         ensures gives { (f : ℕ) → length (rows_of self.now.rows) ≤ at + 1 + f → Gives result cx.new (row_of (program_of self.now) (term_of (program_of self.now) f) (follow_of (program_of self.now) f) at cx.old row) }
@@ -74,7 +74,7 @@ impl<'a> Descent<'a> {
         }
     }
 
-    #[cycle(after_row_branch_branch_at_case_row_follow_follow_on_later_let_row_locate_past_row_region_row_row_start_row_term_test_row)]
+    #[cycle(descend)]
     fn region_row(&self, at: usize, r: u8, room: u16, cx: &mut Context) -> Result<Kind, Fault>
         requires { (at < length (rows_of self.now.rows)) × (at < 1024) }
         ensures gives { (f : ℕ) → length (rows_of self.now.rows) ≤ at + 1 + f → Gives result cx.new (row_of (program_of self.now) (term_of (program_of self.now) f) (follow_of (program_of self.now) f) at cx.old (row.Region r room)) }
@@ -87,7 +87,7 @@ impl<'a> Descent<'a> {
     }
 
     // The child of a row that brings location l into scope.
-    #[cycle(after_row_branch_branch_at_case_row_follow_follow_on_later_let_row_locate_past_row_region_row_row_start_row_term_test_row)]
+    #[cycle(descend)]
     fn locate(&self, at: usize, l: u8, location: Location, cx: &mut Context) -> Result<Kind, Fault>
         requires { (at < length (rows_of self.now.rows)) × (at < 1024) }
         ensures gives { (f : ℕ) → length (rows_of self.now.rows) ≤ at + 1 + f → Gives result cx.new (locating (program_of self.now) (term_of (program_of self.now) f) at l location cx.old) }
@@ -101,7 +101,7 @@ impl<'a> Descent<'a> {
         Ok(kind)
     }
 
-    #[cycle(after_row_branch_branch_at_case_row_follow_follow_on_later_let_row_locate_past_row_region_row_row_start_row_term_test_row)]
+    #[cycle(descend)]
     fn start_row(&self, at: usize, l: u8, r: u8, cx: &mut Context) -> Result<Kind, Fault>
         requires { (at < length (rows_of self.now.rows)) × (at < 1024) }
         ensures gives { (f : ℕ) → length (rows_of self.now.rows) ≤ at + 1 + f → Gives result cx.new (row_of (program_of self.now) (term_of (program_of self.now) f) (follow_of (program_of self.now) f) at cx.old (row.Start l r)) }
@@ -114,7 +114,7 @@ impl<'a> Descent<'a> {
         self.locate(at, l, location, cx)
     }
 
-    #[cycle(after_row_branch_branch_at_case_row_follow_follow_on_later_let_row_locate_past_row_region_row_row_start_row_term_test_row)]
+    #[cycle(descend)]
     fn past_row(&self, at: usize, l: u8, m: u8, k: u8, cx: &mut Context) -> Result<Kind, Fault>
         requires { (at < length (rows_of self.now.rows)) × (at < 1024) }
         ensures gives { (f : ℕ) → length (rows_of self.now.rows) ≤ at + 1 + f → Gives result cx.new (row_of (program_of self.now) (term_of (program_of self.now) f) (follow_of (program_of self.now) f) at cx.old (row.Past l m k)) }
@@ -128,7 +128,7 @@ impl<'a> Descent<'a> {
         self.locate(at, l, location, cx)
     }
 
-    #[cycle(after_row_branch_branch_at_case_row_follow_follow_on_later_let_row_locate_past_row_region_row_row_start_row_term_test_row)]
+    #[cycle(descend)]
     fn after_row(&self, at: usize, l: u8, m: u8, t: u8, cx: &mut Context) -> Result<Kind, Fault>
         requires { (at < length (rows_of self.now.rows)) × (at < 1024) }
         ensures gives { (f : ℕ) → length (rows_of self.now.rows) ≤ at + 1 + f → Gives result cx.new (row_of (program_of self.now) (term_of (program_of self.now) f) (follow_of (program_of self.now) f) at cx.old (row.After l m t)) }
@@ -143,7 +143,7 @@ impl<'a> Descent<'a> {
     }
 
     // A child that row `at` says starts at row `start`.
-    #[cycle(after_row_branch_branch_at_case_row_follow_follow_on_later_let_row_locate_past_row_region_row_row_start_row_term_test_row)]
+    #[cycle(descend)]
     fn later(&self, at: usize, start: u16, cx: &mut Context) -> Result<Kind, Fault>
         requires { (at < length (rows_of self.now.rows)) × (at < 1024) }
         ensures gives { (f : ℕ) → length (rows_of self.now.rows) ≤ at + 1 + f → Gives result cx.new (further (program_of self.now) (term_of (program_of self.now) f) at start cx.old) }
@@ -156,7 +156,7 @@ impl<'a> Descent<'a> {
         }
     }
 
-    #[cycle(after_row_branch_branch_at_case_row_follow_follow_on_later_let_row_locate_past_row_region_row_row_start_row_term_test_row)]
+    #[cycle(descend)]
     fn let_row(
         &self,
         at: usize,
@@ -180,7 +180,7 @@ impl<'a> Descent<'a> {
         Ok(kind)
     }
 
-    #[cycle(after_row_branch_branch_at_case_row_follow_follow_on_later_let_row_locate_past_row_region_row_row_start_row_term_test_row)]
+    #[cycle(descend)]
     fn test_row(&self, at: usize, x: u8, y: u8, other: u16, cx: &mut Context) -> Result<Kind, Fault>
         requires { (at < length (rows_of self.now.rows)) × (at < 1024) }
         ensures gives { (f : ℕ) → length (rows_of self.now.rows) ≤ at + 1 + f → Gives result cx.new (row_of (program_of self.now) (term_of (program_of self.now) f) (follow_of (program_of self.now) f) at cx.old (row.Test x y other)) }
@@ -196,7 +196,7 @@ impl<'a> Descent<'a> {
         Ok(second)
     }
 
-    #[cycle(after_row_branch_branch_at_case_row_follow_follow_on_later_let_row_locate_past_row_region_row_row_start_row_term_test_row)]
+    #[cycle(descend)]
     fn case_row(&self, at: usize, x: u8, cx: &mut Context) -> Result<Kind, Fault>
         requires { (at < length (rows_of self.now.rows)) × (at < 1024) }
         ensures gives { (f : ℕ) → length (rows_of self.now.rows) ≤ at + 1 + f → Gives result cx.new (row_of (program_of self.now) (term_of (program_of self.now) f) (follow_of (program_of self.now) f) at cx.old (row.Case x)) }

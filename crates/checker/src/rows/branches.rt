@@ -36,7 +36,7 @@ pub fn home_of(cx: &Context, x: u8) -> Option<u8>
 
 impl<'a> Descent<'a> {
     // The branch at row b, of a case on a tree in region `home`.
-    #[cycle(after_row_branch_branch_at_case_row_follow_follow_on_later_let_row_locate_past_row_region_row_row_start_row_term_test_row)]
+    #[cycle(descend)]
     pub fn branch_at(&self, b: usize, home: Option<u8>, cx: &mut Context) -> Result<Arm, Fault>
         ensures gives { (f : ℕ) → length (rows_of self.now.rows) ≤ b + 1 + f → GivesArm result cx.new (branch_at (program_of self.now) (term_of (program_of self.now) f) b home cx.old (slice_get (rows_of self.now.rows) b)) }
     {
@@ -51,7 +51,7 @@ impl<'a> Descent<'a> {
         }
     }
 
-    #[cycle(after_row_branch_branch_at_case_row_follow_follow_on_later_let_row_locate_past_row_region_row_row_start_row_term_test_row)]
+    #[cycle(descend)]
     fn branch(
         &self,
         b: usize,
@@ -78,7 +78,7 @@ impl<'a> Descent<'a> {
     }
 
     // The branches from row b on of the case at row `at`: each starts as the first did, and has to end as it ended.
-    #[cycle(after_row_branch_branch_at_case_row_follow_follow_on_later_let_row_locate_past_row_region_row_row_start_row_term_test_row)]
+    #[cycle(descend)]
     pub fn follow(
         &self,
         at: usize,
@@ -101,7 +101,7 @@ impl<'a> Descent<'a> {
     }
 
     // Behind the branch at row b, which gave this.
-    #[cycle(after_row_branch_branch_at_case_row_follow_follow_on_later_let_row_locate_past_row_region_row_row_start_row_term_test_row)]
+    #[cycle(descend)]
     fn follow_on(
         &self,
         at: usize,

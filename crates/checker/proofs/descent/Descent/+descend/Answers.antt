@@ -4,7 +4,7 @@ use Rattle.checker.specs.Described.{program_of}
 use Rattle.checker.specs.Giving.{Gives}
 use Rattle.checker.specs.Verdict.{term_of}
 use Rattle.checker.proofs.Descending.{term-none, term-past, term-row, branch-past, follow-past, follow-on}
-use Rattle.checker.proofs.descent.Descent.+after_row_branch_branch_at_case_row_follow_follow_on_later_let_row_locate_past_row_region_row_row_start_row_term_test_row.Goals as goal
+use Rattle.checker.proofs.descent.Descent.+descend.Goals as goal
 
 pub term-returns-then-at-len : goal.term-returns-then-at-len
 term-returns-then-at-len t c = record { gives = λ f l. term-past (program_of c.args.self.now) c.args.at c.args.cx.now (omega arith) f ∙ ap Err (sym c.fault.ensures.value) }
@@ -22,7 +22,7 @@ pub follow-returns-then-b-len : goal.follow-returns-then-b-len
 follow-returns-then-b-len t c = record { gives = λ f x d p q s l. follow-past (program_of c.args.self.now) c.args.at c.args.home c.args.b c.args.cx.now (omega arith) f x d ∙ ap Err (sym c.fault.ensures.value) }
 
 pub follow-returns-in-Err : goal.follow-returns-in-Err
-follow-returns-in-Err t c = record { gives = follow_on (program_of c.args.self.now) c.args.at c.args.home c.args.b c.args.cx.now c.args.start.now c.args.first.now.kind c.args.first.now.end (Err c.in-Err.e) (omega arith) c.in-Err.ensures.gives (λ a. a ≡ Err c.in-Err.e) (λ f x d p q s l. refl) }
+follow-returns-in-Err t c = record { gives = follow-on (program_of c.args.self.now) c.args.at c.args.home c.args.b c.args.cx.now c.args.start.now c.args.first.now.kind c.args.first.now.end (Err c.in-Err.e) (omega arith) c.in-Err.ensures.gives (λ a. a ≡ Err c.in-Err.e) (λ f x d p q s l. refl) }
 
 pub follow-returns-in-Ok : goal.follow-returns-in-Ok
-follow-returns-in-Ok t c = record { gives = follow_on (program_of c.args.self.now) c.args.at c.args.home c.args.b c.args.cx.now c.args.start.now c.args.first.now.kind c.args.first.now.end _ (omega arith) c.in-Ok.ensures.gives (λ a. Gives c.follow_on.result c.follow_on.new.cx a) c.follow_on.ensures.gives }
+follow-returns-in-Ok t c = record { gives = follow-on (program_of c.args.self.now) c.args.at c.args.home c.args.b c.args.cx.now c.args.start.now c.args.first.now.kind c.args.first.now.end _ (omega arith) c.in-Ok.ensures.gives (λ a. Gives c.follow_on.result c.follow_on.new.cx a) c.follow_on.ensures.gives }

@@ -1,6 +1,6 @@
 use Rattle.std.proofs.Common.{◌+◌, ◌-◌, ◌*◌, length}
 use Rattle.table.specs.Held.{rows_of}
-use Rattle.checker.proofs.descent.Descent.+after_row_branch_branch_at_case_row_follow_follow_on_later_let_row_locate_past_row_region_row_row_start_row_term_test_row.Given as goal
+use Rattle.checker.proofs.descent.Descent.+descend.Given as goal
 
 -- Rows left, and at one row who calls whom.
 
