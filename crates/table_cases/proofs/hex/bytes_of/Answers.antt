@@ -13,7 +13,7 @@ returns-in-None c = record {
 pub loop-i-preserved : goal.loop-i-preserved
 loop-i-preserved c =
     one_more c.args.text.now (vec_items c.loop-i.bytes) (vec_items c.push.new.self) c.loop-i.i c.in-Some.b
-    c.in-ok-push.ensures.items (omega arith) c.in-Some.ensures.value c.loop-i.invariant
+    c.in_ok-push-in-Some.ensures.items (omega arith) c.in-Some.ensures.value c.loop-i.invariant
 
 pub returns : goal.returns
 returns c = record {

@@ -26,29 +26,29 @@ returns c =
     let z = met-filled c.args.self.now c.args.region c.if-region-self.false c.args.cell c.if-cell-end.false c.if-held-ge-EMPTY.false in
     record { value = rw (z.0, z.2) refl }
 
-pub overflow-sub-end : goal.overflow-sub-end
-overflow-sub-end c = end_after c.args.self.now c.args.region c.if-region-self.false
+pub overflow_sub-end : goal.overflow_sub-end
+overflow_sub-end c = end_after c.args.self.now c.args.region c.if-region-self.false
 
-pub overflow-add-held : goal.overflow-add-held
-overflow-add-held c = place-fits _ (reach c.args.self.now c.args.region c.if-region-self.false c.args.cell c.if-cell-end.false).3
+pub overflow_add-held : goal.overflow_add-held
+overflow_add-held c = place-fits _ (reach c.args.self.now c.args.region c.if-region-self.false c.args.cell c.if-cell-end.false).3
 
-pub offset-bounds-self-start : goal.offset-bounds-self-start
-offset-bounds-self-start c = place-fits-twice _ (reach c.args.self.now c.args.region c.if-region-self.false c.args.cell c.if-cell-end.false).3
+pub offset_bounds-self-start : goal.offset_bounds-self-start
+offset_bounds-self-start c = place-fits-twice _ (reach c.args.self.now c.args.region c.if-region-self.false c.args.cell c.if-cell-end.false).3
 
-pub offset-bounds-self-region : goal.offset-bounds-self-region
-offset-bounds-self-region c = (number_fits c.args.region c.args.self.now.count c.if-region-self.false c.args.self.now.few).4
+pub offset_bounds-self-region : goal.offset_bounds-self-region
+offset_bounds-self-region c = (number_fits c.args.region c.args.self.now.count c.if-region-self.false c.args.self.now.few).4
 
 pub bounds-self-region : goal.bounds-self-region
 bounds-self-region c = (number_fits c.args.region c.args.self.now.count c.if-region-self.false c.args.self.now.few).1
 
-pub overflow-add-end : goal.overflow-add-end
-overflow-add-end c = (number_fits c.args.region c.args.self.now.count c.if-region-self.false c.args.self.now.few).3
+pub overflow_add-end : goal.overflow_add-end
+overflow_add-end c = (number_fits c.args.region c.args.self.now.count c.if-region-self.false c.args.self.now.few).3
 
-pub offset-bounds-self-region-2 : goal.offset-bounds-self-region-2
-offset-bounds-self-region-2 c = (number_fits c.args.region c.args.self.now.count c.if-region-self.false c.args.self.now.few).5
+pub offset_bounds-self-region-2 : goal.offset_bounds-self-region-2
+offset_bounds-self-region-2 c = (number_fits c.args.region c.args.self.now.count c.if-region-self.false c.args.self.now.few).5
 
 pub bounds-self-region-2 : goal.bounds-self-region-2
 bounds-self-region-2 c = (number_fits c.args.region c.args.self.now.count c.if-region-self.false c.args.self.now.few).2
 
-pub overflow-cast-result : goal.overflow-cast-result
-overflow-cast-result c = byte_fits _ c.if-held-ge-EMPTY.false
+pub overflow_cast-result : goal.overflow_cast-result
+overflow_cast-result c = byte_fits _ c.if-held-ge-EMPTY.false

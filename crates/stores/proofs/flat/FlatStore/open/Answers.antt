@@ -25,32 +25,38 @@ returns-then-room-self c =
     let p = open-refused (m s) c.args.room _ _ (met-short s c.args.room c.if-room-self.true) c.refused-then-room-self.ensures.value in
     record { value = p.0; after = p.1; keeps = (refl, refl) }
 
-pub invariant-of-self : goal.invariant-of-self
-invariant-of-self c =
+pub invariant_of-self : goal.invariant_of-self
+invariant_of-self c =
     let s = c.args.self.now in
     let n = c.args.room in
-    let few = c.if-number-ge-MAX-REGIONS.false in
-    let ordered = open-ordered s n c.if-room-eq0.false c.if-room-gt-MAX-ROOM.false few c.if-room-self.false in
-    let clear = open-clear s n c.if-room-eq0.false c.if-room-gt-MAX-ROOM.false few c.if-room-self.false in
-    (more s.count few, (length-set s.starts (s.count + 1) _ ∙ s.sized, (s.whole, (ordered, (clear, tt)))))
+    let few = c.if-number-ge-MAX_REGIONS.false in
+    let ordered = open-ordered s n c.if-room-eq0.false c.if-room-gt-MAX_ROOM.false few c.if-room-self.false in
+    let clear = open-clear s n c.if-room-eq0.false c.if-room-gt-MAX_ROOM.false few c.if-room-self.false in
+    record {
+      few = more s.count few;
+      sized = length-set s.starts (s.count + 1) _ ∙ s.sized;
+      whole = s.whole;
+      ordered = ordered;
+      clear = clear;
+    }
 
 pub returns : goal.returns
 returns c =
     let s = c.args.self.now in
     let n = c.args.room in
-    let z = met-open s n c.if-room-eq0.false c.if-room-gt-MAX-ROOM.false c.if-number-ge-MAX-REGIONS.false c.if-room-self.false in
-    let e = open_is s n c.if-room-eq0.false c.if-room-gt-MAX-ROOM.false c.if-number-ge-MAX-REGIONS.false c.if-room-self.false in
+    let z = met-open s n c.if-room-eq0.false c.if-room-gt-MAX_ROOM.false c.if-number-ge-MAX_REGIONS.false c.if-room-self.false in
+    let e = open_is s n c.if-room-eq0.false c.if-room-gt-MAX_ROOM.false c.if-number-ge-MAX_REGIONS.false c.if-room-self.false in
     let p = open_done (m s) n s.count _ z (sym (count-is s)) e in
     record { value = p.0; after = p.1; keeps = (refl, refl) }
 
-pub overflow-sub-self : goal.overflow-sub-self
-overflow-sub-self c = start-low c.args.self.now
+pub overflow_sub-self : goal.overflow_sub-self
+overflow_sub-self c = start-low c.args.self.now
 
-pub overflow-add-self : goal.overflow-add-self
-overflow-add-self c = end-fits-word _ (end_low c.args.self.now c.args.room c.if-room-eq0.false c.if-room-gt-MAX-ROOM.false c.if-number-ge-MAX-REGIONS.false c.if-room-self.false)
+pub overflow_add-self : goal.overflow_add-self
+overflow_add-self c = end-fits-word _ (end_low c.args.self.now c.args.room c.if-room-eq0.false c.if-room-gt-MAX_ROOM.false c.if-number-ge-MAX_REGIONS.false c.if-room-self.false)
 
-pub overflow-add-self-2 : goal.overflow-add-self-2
-overflow-add-self-2 c = more-fits _ c.if-number-ge-MAX-REGIONS.false
+pub overflow_add-self-2 : goal.overflow_add-self-2
+overflow_add-self-2 c = more-fits _ c.if-number-ge-MAX_REGIONS.false
 
-pub overflow-add-self-3 : goal.overflow-add-self-3
-overflow-add-self-3 c = more-fits _ c.if-number-ge-MAX-REGIONS.false
+pub overflow_add-self-3 : goal.overflow_add-self-3
+overflow_add-self-3 c = more-fits _ c.if-number-ge-MAX_REGIONS.false

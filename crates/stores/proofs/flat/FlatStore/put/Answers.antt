@@ -32,11 +32,17 @@ returns-then-self-at-lt-EMPTY c =
 pub bounds-self-at-2 : goal.bounds-self-at-2
 bounds-self-at-2 c = (reach c.args.self.now c.args.region c.if-region-self.false c.args.cell c.if-cell-end.false).2
 
-pub invariant-of-self : goal.invariant-of-self
-invariant-of-self c =
+pub invariant_of-self : goal.invariant_of-self
+invariant_of-self c =
     let s = c.args.self.now in
     let w = reach s c.args.region c.if-region-self.false c.args.cell c.if-cell-end.false in
-    (s.few, (s.sized, (rw length-set s.whole, (s.ordered, (clear-set s.cells.now (place_of s c.args.region c.args.cell) c.args.byte (get_or s.starts s.count 0) s.total w.0 s.clear, tt)))))
+    record {
+      few = s.few;
+      sized = s.sized;
+      whole = rw length-set s.whole;
+      ordered = s.ordered;
+      clear = clear-set s.cells.now (place_of s c.args.region c.args.cell) c.args.byte (get_or s.starts s.count 0) s.total w.0 s.clear;
+    }
 
 pub returns : goal.returns
 returns c =
@@ -48,29 +54,29 @@ returns c =
     let p = put-done (m s) r i c.args.byte _ z.1 (put_is s r c.if-region-self.false i c.if-cell-end.false c.args.byte (byte_low c.args.byte c.ranges.byte)) in
     record { value = p.0; after = p.1; keeps = kept_set s.total s.cells.now _ _ w.1 }
 
-pub overflow-sub-end : goal.overflow-sub-end
-overflow-sub-end c = end_after c.args.self.now c.args.region c.if-region-self.false
+pub overflow_sub-end : goal.overflow_sub-end
+overflow_sub-end c = end_after c.args.self.now c.args.region c.if-region-self.false
 
-pub overflow-add-at : goal.overflow-add-at
-overflow-add-at c = place-fits _ (reach c.args.self.now c.args.region c.if-region-self.false c.args.cell c.if-cell-end.false).3
+pub overflow_add-at : goal.overflow_add-at
+overflow_add-at c = place-fits _ (reach c.args.self.now c.args.region c.if-region-self.false c.args.cell c.if-cell-end.false).3
 
-pub offset-bounds-self-at : goal.offset-bounds-self-at
-offset-bounds-self-at c = place-fits-twice _ (reach c.args.self.now c.args.region c.if-region-self.false c.args.cell c.if-cell-end.false).3
+pub offset_bounds-self-at : goal.offset_bounds-self-at
+offset_bounds-self-at c = place-fits-twice _ (reach c.args.self.now c.args.region c.if-region-self.false c.args.cell c.if-cell-end.false).3
 
-pub offset-bounds-self-at-2 : goal.offset-bounds-self-at-2
-offset-bounds-self-at-2 c = place-fits-twice _ (reach c.args.self.now c.args.region c.if-region-self.false c.args.cell c.if-cell-end.false).3
+pub offset_bounds-self-at-2 : goal.offset_bounds-self-at-2
+offset_bounds-self-at-2 c = place-fits-twice _ (reach c.args.self.now c.args.region c.if-region-self.false c.args.cell c.if-cell-end.false).3
 
-pub offset-bounds-self-region : goal.offset-bounds-self-region
-offset-bounds-self-region c = (number_fits c.args.region c.args.self.now.count c.if-region-self.false c.args.self.now.few).4
+pub offset_bounds-self-region : goal.offset_bounds-self-region
+offset_bounds-self-region c = (number_fits c.args.region c.args.self.now.count c.if-region-self.false c.args.self.now.few).4
 
 pub bounds-self-region : goal.bounds-self-region
 bounds-self-region c = (number_fits c.args.region c.args.self.now.count c.if-region-self.false c.args.self.now.few).1
 
-pub overflow-add-end : goal.overflow-add-end
-overflow-add-end c = (number_fits c.args.region c.args.self.now.count c.if-region-self.false c.args.self.now.few).3
+pub overflow_add-end : goal.overflow_add-end
+overflow_add-end c = (number_fits c.args.region c.args.self.now.count c.if-region-self.false c.args.self.now.few).3
 
-pub offset-bounds-self-region-2 : goal.offset-bounds-self-region-2
-offset-bounds-self-region-2 c = (number_fits c.args.region c.args.self.now.count c.if-region-self.false c.args.self.now.few).5
+pub offset_bounds-self-region-2 : goal.offset_bounds-self-region-2
+offset_bounds-self-region-2 c = (number_fits c.args.region c.args.self.now.count c.if-region-self.false c.args.self.now.few).5
 
 pub bounds-self-region-2 : goal.bounds-self-region-2
 bounds-self-region-2 c = (number_fits c.args.region c.args.self.now.count c.if-region-self.false c.args.self.now.few).2

@@ -13,20 +13,20 @@ returns c =
     let z = met-room c.args.self.now c.args.region c.if-region-self.false in
     record { value = rw z (ap Ok (sym (room-is c.args.self.now c.args.region c.if-region-self.false))) }
 
-pub overflow-sub-result : goal.overflow-sub-result
-overflow-sub-result c = end_after c.args.self.now c.args.region c.if-region-self.false
+pub overflow_sub-result : goal.overflow_sub-result
+overflow_sub-result c = end_after c.args.self.now c.args.region c.if-region-self.false
 
-pub overflow-add-result : goal.overflow-add-result
-overflow-add-result c = (number_fits c.args.region c.args.self.now.count c.if-region-self.false c.args.self.now.few).3
+pub overflow_add-result : goal.overflow_add-result
+overflow_add-result c = (number_fits c.args.region c.args.self.now.count c.if-region-self.false c.args.self.now.few).3
 
-pub offset-bounds-self-region : goal.offset-bounds-self-region
-offset-bounds-self-region c = (number_fits c.args.region c.args.self.now.count c.if-region-self.false c.args.self.now.few).5
+pub offset_bounds-self-region : goal.offset_bounds-self-region
+offset_bounds-self-region c = (number_fits c.args.region c.args.self.now.count c.if-region-self.false c.args.self.now.few).5
 
 pub bounds-self-region : goal.bounds-self-region
 bounds-self-region c = (number_fits c.args.region c.args.self.now.count c.if-region-self.false c.args.self.now.few).2
 
-pub offset-bounds-self-region-2 : goal.offset-bounds-self-region-2
-offset-bounds-self-region-2 c = (number_fits c.args.region c.args.self.now.count c.if-region-self.false c.args.self.now.few).4
+pub offset_bounds-self-region-2 : goal.offset_bounds-self-region-2
+offset_bounds-self-region-2 c = (number_fits c.args.region c.args.self.now.count c.if-region-self.false c.args.self.now.few).4
 
 pub bounds-self-region-2 : goal.bounds-self-region-2
 bounds-self-region-2 c = (number_fits c.args.region c.args.self.now.count c.if-region-self.false c.args.self.now.few).1

@@ -3,36 +3,21 @@ use Rattle.stores.proofs.Slots.{none-at, pages-none}
 use Rattle.stores.proofs.Pageds.{paged-new}
 use Rattle.stores.proofs.paged.Paged.new.Goals as goal
 
-pub invariant-of-result : goal.invariant-of-result
-invariant-of-result c =
-    let all = none-at 1024 in (
-      omega arith,
-      (
-        (refl, refl, refl),
-        (
-          omega arith,
-          (
-            (λ k h. absurd (omega arith)),
-            (
-              (refl, (λ k h. absurd (omega arith)), omega arith),
-              (
-                (λ j h. all j),
-                (
-                  (λ j. let e = all j in omega arith),
-                  (
-                    (λ i j p. let e = all i in let t = p.1 in absurd (omega arith)),
-                    (
-                      pages-none 1024,
-                      (λ p a b. c.clear.ensures.clear p (omega arith) (omega arith), tt),
-                    ),
-                  ),
-                ),
-              ),
-            ),
-          ),
-        ),
-      ),
-    )
+pub invariant_of-result : goal.invariant_of-result
+invariant_of-result c =
+    let all = none-at 1024 in
+    record {
+      few = omega arith;
+      sized = (refl, refl, refl);
+      whole = omega arith;
+      allowed = (λ k h. absurd (omega arith));
+      slotted = (refl, (λ k h. absurd (omega arith)), omega arith);
+      loose = (λ j h. all j);
+      low = (λ j. let e = all j in omega arith);
+      once = (λ i j p. let e = all i in let t = p.1 in absurd (omega arith));
+      counted = pages-none 1024;
+      clear = λ p a b. c.clear.ensures.clear p (omega arith) (omega arith);
+    }
 
 pub returns : goal.returns
 returns c =

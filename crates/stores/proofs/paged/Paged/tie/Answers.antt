@@ -26,46 +26,31 @@ clear-more cells tied to clear p a b = clear p (omega arith) b
 some_since : (x tied : ℕ) → x ≡ tied + 1 → 0 < x
 some_since x tied e = omega arith
 
-pub overflow-add-self : goal.overflow-add-self
-overflow-add-self c = let s = c.args.self.now in let h = room-left s c.args.slot c.requires.used c.requires.loose in (next s.tied s.pages h.0 h.1).0
+pub overflow_add-self : goal.overflow_add-self
+overflow_add-self c = let s = c.args.self.now in let h = room-left s c.args.slot c.requires.used c.requires.loose in (next s.tied s.pages h.0 h.1).0
 
-pub overflow-cast-self : goal.overflow-cast-self
-overflow-cast-self c = let s = c.args.self.now in let h = room-left s c.args.slot c.requires.used c.requires.loose in (next s.tied s.pages h.0 h.1).1
+pub overflow_cast-self : goal.overflow_cast-self
+overflow_cast-self c = let s = c.args.self.now in let h = room-left s c.args.slot c.requires.used c.requires.loose in (next s.tied s.pages h.0 h.1).1
 
-pub invariant-of-self : goal.invariant-of-self
-invariant-of-self c =
+pub invariant_of-self : goal.invariant_of-self
+invariant_of-self c =
     let s = c.args.self.now in
     let j : ℕ = c.args.slot in
     let h = room-left s j c.requires.used c.requires.loose in
     let k = next s.tied s.pages h.0 h.1 in
-    let n = pages-set s.slots j (s.tied + 1) c.requires.loose h.2 k.2 in (
-      s.few,
-      (
-        simp length-set s.sized,
-        (
-          s.whole,
-          (
-            s.allowed,
-            (
-              s.slotted,
-              (
-                tie-loose s.slots s.tied j s.low c.requires.loose h.2 _ c.requires.used s.loose,
-                (
-                  tie-low s.slots s.tied j s.low c.requires.loose h.2,
-                  (
-                    tie-once s.slots s.tied j s.low c.requires.loose h.2 s.once,
-                    (
-                      n ∙ ap (λ (k : ℕ). k + 1) s.counted,
-                      (clear-more s.cells.now s.tied (s.pages * 64) s.clear, tt),
-                    ),
-                  ),
-                ),
-              ),
-            ),
-          ),
-        ),
-      ),
-    )
+    let n = pages-set s.slots j (s.tied + 1) c.requires.loose h.2 k.2 in
+    record {
+      few = s.few;
+      sized = simp length-set s.sized;
+      whole = s.whole;
+      allowed = s.allowed;
+      slotted = s.slotted;
+      loose = tie-loose s.slots s.tied j s.low c.requires.loose h.2 _ c.requires.used s.loose;
+      low = tie-low s.slots s.tied j s.low c.requires.loose h.2;
+      once = tie-once s.slots s.tied j s.low c.requires.loose h.2 s.once;
+      counted = n ∙ ap (λ (k : ℕ). k + 1) s.counted;
+      clear = clear-more s.cells.now s.tied (s.pages * 64) s.clear;
+    }
 
 pub returns : goal.returns
 returns c =

@@ -18,11 +18,11 @@ returns-then-cell-self c =
     let q = paged-room s c.args.region c.if-region-self.false in
     record { value = answer-refused _ _ reason.PastRoom _ (get-past (m s) c.args.region c.args.cell (omega arith) (omega arith)) c.refused-then-cell-self.ensures.value }
 
-pub overflow-add-page : goal.overflow-add-page
-overflow-add-page c = let l = slot-low c.args.self.now c.args.region c.if-region-self.false c.args.cell c.if-cell-self.false in omega arith
+pub overflow_add-page : goal.overflow_add-page
+overflow_add-page c = let l = slot-low c.args.self.now c.args.region c.if-region-self.false c.args.cell c.if-cell-self.false in omega arith
 
-pub offset-bounds-self-self : goal.offset-bounds-self-self
-offset-bounds-self-self c = let l = slot-low c.args.self.now c.args.region c.if-region-self.false c.args.cell c.if-cell-self.false in omega arith
+pub offset_bounds-self-self : goal.offset_bounds-self-self
+offset_bounds-self-self c = let l = slot-low c.args.self.now c.args.region c.if-region-self.false c.args.cell c.if-cell-self.false in omega arith
 
 pub bounds-self-self : goal.bounds-self-self
 bounds-self-self c = let l = slot-low c.args.self.now c.args.region c.if-region-self.false c.args.cell c.if-cell-self.false in omega arith
@@ -53,17 +53,17 @@ returns c =
     let w = met-filled s c.args.region c.args.cell c.if-region-self.false c.if-cell-self.false (omega arith) c.if-held-ge-EMPTY.false in
     record { value = rw (w.0, w.2) refl }
 
-pub offset-bounds-self-region : goal.offset-bounds-self-region
-offset-bounds-self-region c = (number_fits c.args.region c.args.self.now.count c.if-region-self.false c.args.self.now.few).4
+pub offset_bounds-self-region : goal.offset_bounds-self-region
+offset_bounds-self-region c = (number_fits c.args.region c.args.self.now.count c.if-region-self.false c.args.self.now.few).4
 
 pub bounds-self-region : goal.bounds-self-region
 bounds-self-region c = (number_fits c.args.region c.args.self.now.count c.if-region-self.false c.args.self.now.few).0
 
-pub offset-bounds-self-region-2 : goal.offset-bounds-self-region-2
-offset-bounds-self-region-2 c = (number_fits c.args.region c.args.self.now.count c.if-region-self.false c.args.self.now.few).4
+pub offset_bounds-self-region-2 : goal.offset_bounds-self-region-2
+offset_bounds-self-region-2 c = (number_fits c.args.region c.args.self.now.count c.if-region-self.false c.args.self.now.few).4
 
 pub bounds-self-region-2 : goal.bounds-self-region-2
 bounds-self-region-2 c = (number_fits c.args.region c.args.self.now.count c.if-region-self.false c.args.self.now.few).1
 
-pub overflow-cast-result : goal.overflow-cast-result
-overflow-cast-result c = byte_fits _ c.if-held-ge-EMPTY.false
+pub overflow_cast-result : goal.overflow_cast-result
+overflow_cast-result c = byte_fits _ c.if-held-ge-EMPTY.false

@@ -22,28 +22,25 @@ returns-then-need-self c =
     let p = open-refused (m s) c.args.room _ _ (open-ground (m s) c.args.room (inr (inr (inr short)))) c.refused-then-need-self.ensures.value in
     record { value = p.0; after = p.1; keeps = (refl, refl) }
 
-pub invariant-of-self : goal.invariant-of-self
-invariant-of-self c =
+pub invariant_of-self : goal.invariant_of-self
+invariant_of-self c =
     let s = c.args.self.now in
     let n : ℕ = c.args.room in
     let f = s.slotted.2 in
     let fits : get_or s.firsts s.count 0 + (n + 63) / 64 ≤ s.pages = omega arith in
-    let few : s.count < 32 = omega arith in (
-      omega arith,
-      (
-        simp length-set s.sized,
-        (
-          s.whole,
-          (
-            allowed-open s n few fits (omega arith) (omega arith),
-            (
-              slotted-open s n few fits,
-              (loose_open s n few fits, (s.low, (s.once, (s.counted, (s.clear, tt))))),
-            ),
-          ),
-        ),
-      ),
-    )
+    let few : s.count < 32 = omega arith in
+    record {
+      few = omega arith;
+      sized = simp length-set s.sized;
+      whole = s.whole;
+      allowed = allowed-open s n few fits (omega arith) (omega arith);
+      slotted = slotted-open s n few fits;
+      loose = loose_open s n few fits;
+      low = s.low;
+      once = s.once;
+      counted = s.counted;
+      clear = s.clear;
+    }
 
 pub returns : goal.returns
 returns c =

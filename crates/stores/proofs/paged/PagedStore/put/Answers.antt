@@ -25,8 +25,8 @@ returns-then-cell-self c =
     let p = put_refused (m s) c.args.region c.args.cell c.args.byte reason.PastRoom _ (put-past (m s) c.args.region c.args.cell (omega arith) (omega arith)) c.refused-then-cell-self.ensures.value in
     record { value = p.0; after = p.1; keeps = (refl, refl) }
 
-pub overflow-add-self : goal.overflow-add-self
-overflow-add-self c = let l = slot-low c.args.self.now c.args.region c.if-region-self.false c.args.cell c.if-cell-self.false in omega arith
+pub overflow_add-self : goal.overflow_add-self
+overflow_add-self c = let l = slot-low c.args.self.now c.args.region c.if-region-self.false c.args.cell c.if-cell-self.false in omega arith
 
 pub page-page-requires : goal.page-page-requires
 page-page-requires c = (slot-low c.args.self.now c.args.region c.if-region-self.false c.args.cell c.if-cell-self.false).0
@@ -39,20 +39,20 @@ low s j page at v h =
     let w = page-low s j (omega arith) in
     (omega arith, omega arith)
 
-pub overflow-mul-at : goal.overflow-mul-at
-overflow-mul-at c = let w = low c.page-page.new.self _ c.page-page.result 0 c.page-page.ensures.value (omega arith) in omega arith
+pub overflow_mul-at : goal.overflow_mul-at
+overflow_mul-at c = let w = low c.page-page.new.self _ c.page-page.result 0 c.page-page.ensures.value (omega arith) in omega arith
 
-pub overflow-add-at : goal.overflow-add-at
-overflow-add-at c = let w = low c.page-page.new.self _ c.page-page.result 0 c.page-page.ensures.value (omega arith) in omega arith
+pub overflow_add-at : goal.overflow_add-at
+overflow_add-at c = let w = low c.page-page.new.self _ c.page-page.result 0 c.page-page.ensures.value (omega arith) in omega arith
 
-pub offset-bounds-self-at : goal.offset-bounds-self-at
-offset-bounds-self-at c = let w = low c.page-page.new.self _ c.page-page.result 0 c.page-page.ensures.value (omega arith) in omega arith
+pub offset_bounds-self-at : goal.offset_bounds-self-at
+offset_bounds-self-at c = let w = low c.page-page.new.self _ c.page-page.result 0 c.page-page.ensures.value (omega arith) in omega arith
 
 pub bounds-self-at : goal.bounds-self-at
 bounds-self-at c = let w = low c.page-page.new.self _ c.page-page.result (c.args.cell % 64) c.page-page.ensures.value (omega arith) in w.0
 
-pub offset-bounds-self-at-2 : goal.offset-bounds-self-at-2
-offset-bounds-self-at-2 c = let w = low c.page-page.new.self _ c.page-page.result 0 c.page-page.ensures.value (omega arith) in omega arith
+pub offset_bounds-self-at-2 : goal.offset_bounds-self-at-2
+offset_bounds-self-at-2 c = let w = low c.page-page.new.self _ c.page-page.result 0 c.page-page.ensures.value (omega arith) in omega arith
 
 pub bounds-self-at-2 : goal.bounds-self-at-2
 bounds-self-at-2 c = let w = low c.page-page.new.self _ c.page-page.result (c.args.cell % 64) c.page-page.ensures.value (omega arith) in w.0
@@ -77,41 +77,26 @@ returns-then-self-at-lt-EMPTY c =
       keeps = kept_same old.pages s.pages old.cells.now s.cells.now t.3 t.4;
     }
 
-pub invariant-of-self : goal.invariant-of-self
-invariant-of-self c =
+pub invariant_of-self : goal.invariant_of-self
+invariant_of-self c =
     let s = c.page-page.new.self in
     let v = c.page-page.ensures.value in
     let e = v.0 in
     let p = v.1 in
     let at : ℕ = (c.page-page.result - 1) * 64 + c.args.cell % 64 in
-    let w = page-low s (get_or c.args.self.now.firsts c.args.region 0 + c.args.cell / 64) (omega arith) in (
-      s.few,
-      (
-        s.sized,
-        (
-          simp length-set s.whole,
-          (
-            s.allowed,
-            (
-              s.slotted,
-              (
-                s.loose,
-                (
-                  s.low,
-                  (
-                    s.once,
-                    (
-                      s.counted,
-                      (clear-set s.cells.now at c.args.byte (s.tied * 64) (s.pages * 64) (omega arith) s.clear, tt),
-                    ),
-                  ),
-                ),
-              ),
-            ),
-          ),
-        ),
-      ),
-    )
+    let w = page-low s (get_or c.args.self.now.firsts c.args.region 0 + c.args.cell / 64) (omega arith) in
+    record {
+      few = s.few;
+      sized = s.sized;
+      whole = simp length-set s.whole;
+      allowed = s.allowed;
+      slotted = s.slotted;
+      loose = s.loose;
+      low = s.low;
+      once = s.once;
+      counted = s.counted;
+      clear = clear-set s.cells.now at c.args.byte (s.tied * 64) (s.pages * 64) (omega arith) s.clear;
+    }
 
 pub returns : goal.returns
 returns c =
@@ -140,14 +125,14 @@ returns c =
       keeps = kept_joins (old.pages * 64) (s.pages * 64) (s.pages * 64) old.cells.now s.cells.now (set s.cells.now at c.args.byte) kept (kept_set (s.pages * 64) s.cells.now at c.args.byte (omega arith));
     }
 
-pub offset-bounds-self-region : goal.offset-bounds-self-region
-offset-bounds-self-region c = (number_fits c.args.region c.args.self.now.count c.if-region-self.false c.args.self.now.few).4
+pub offset_bounds-self-region : goal.offset_bounds-self-region
+offset_bounds-self-region c = (number_fits c.args.region c.args.self.now.count c.if-region-self.false c.args.self.now.few).4
 
 pub bounds-self-region : goal.bounds-self-region
 bounds-self-region c = (number_fits c.args.region c.args.self.now.count c.if-region-self.false c.args.self.now.few).0
 
-pub offset-bounds-self-region-2 : goal.offset-bounds-self-region-2
-offset-bounds-self-region-2 c = (number_fits c.args.region c.args.self.now.count c.if-region-self.false c.args.self.now.few).4
+pub offset_bounds-self-region-2 : goal.offset_bounds-self-region-2
+offset_bounds-self-region-2 c = (number_fits c.args.region c.args.self.now.count c.if-region-self.false c.args.self.now.few).4
 
 pub bounds-self-region-2 : goal.bounds-self-region-2
 bounds-self-region-2 c = (number_fits c.args.region c.args.self.now.count c.if-region-self.false c.args.self.now.few).1
