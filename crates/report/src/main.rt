@@ -19,6 +19,7 @@ use packed::Shapes;
 use report::{Report, refusal, report_on};
 use rows::kept_count;
 use show::Refusal;
+use std::process::ExitCode;
 use trouble::Trouble;
 
 // Prints what was done, and what became of each entry.
@@ -75,10 +76,12 @@ fn run(rt: &HostRuntime) -> Result<(), Trouble> {
     print_refusals(rt, &shapes, &report.bytes)
 }
 
-fn main(rt: HostRuntime) -> Result<(), Trouble> {
-    let done = run(&rt);
-    if let Err(trouble) = &done {
-        eprintln!(rt; "no report: {trouble}")?;
+fn main(rt: HostRuntime) -> ExitCode {
+    match run(&rt) {
+        Ok(()) => ExitCode::SUCCESS,
+        Err(trouble) => {
+            let _ = eprintln!(rt; "no report: {trouble}");
+            ExitCode::FAILURE
+        }
     }
-    done
 }

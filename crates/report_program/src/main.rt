@@ -13,6 +13,7 @@ mod telling;
 mod trouble;
 
 use program::{program_bytes, program_rows};
+use std::process::ExitCode;
 use stored::Stored;
 use storing::{stored_flat, stored_paged};
 use telling::print_program;
@@ -54,10 +55,12 @@ fn run(rt: &HostRuntime) -> Result<(), Trouble> {
     print_program(rt, &bytes)
 }
 
-fn main(rt: HostRuntime) -> Result<(), Trouble> {
-    let done = run(&rt);
-    if let Err(trouble) = &done {
-        eprintln!(rt; "no report: {trouble}")?;
+fn main(rt: HostRuntime) -> ExitCode {
+    match run(&rt) {
+        Ok(()) => ExitCode::SUCCESS,
+        Err(trouble) => {
+            let _ = eprintln!(rt; "no report: {trouble}");
+            ExitCode::FAILURE
+        }
     }
-    done
 }

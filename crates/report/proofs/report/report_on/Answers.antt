@@ -9,10 +9,10 @@ use Rattle.report.proofs.report.report_on.Goals as goal
 pub returns : goal.returns
 returns c =
     let forms = forms_of c.args.shapes.now in
-    let laid = c.in-ok-list.ensures.value in
-    let back = ap (nodes_of forms 0) c.deref-2.ensures.value ∙ c.in-ok-bytes.ensures.back ∙ c.deref.ensures.value ∙ laid in
-    let unpacked = c.in-ok-nodes.ensures.value ∙ back in
+    let laid = c.in_ok-list.ensures.value in
+    let back = ap (nodes_of forms 0) c.deref-2.ensures.value ∙ c.in_ok-bytes.ensures.back ∙ c.deref.ensures.value ∙ laid in
+    let unpacked = c.in_ok-nodes.ensures.value ∙ back in
     record {
-      told = c.in-ok-rows.ensures.value ∙ ap (rows_in nowhere) (c.deref-3.ensures.value ∙ unpacked) ∙ folders-told nowhere c.args.folders.now;
-      counted = (c.len.ensures ∙ c.in-ok-list.list.ok.0 ∙ ap length laid, c.len-2.ensures ∙ c.in-ok-nodes.nodes.ok.0 ∙ ap length unpacked);
+      told = c.in_ok-rows.ensures.value ∙ ap (rows_in nowhere) (c.deref-3.ensures.value ∙ unpacked) ∙ folders-told nowhere c.args.folders.now;
+      counted = (c.len.ensures ∙ c.in_ok-list.list.ok.0 ∙ ap length laid, c.len-2.ensures ∙ c.in_ok-nodes.nodes.ok.0 ∙ ap length unpacked);
     }
