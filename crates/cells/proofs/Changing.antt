@@ -4,7 +4,6 @@ use Rattle.std.proofs.lemmas.List.{length-set, get_or-set_same, get_or-set_other
 use Rattle.std.proofs.lemmas.Bool.{cases_eq, cases_lt, cases_Bool}
 use Rattle.std.proofs.lemmas.Bool.Decides.{nat_tests}
 use Rattle.packed.specs.declared.fault.Reason.{Reason}
-use Rattle.packed.specs.declared.fault.Reason.TheVariants as reason
 use Rattle.packed.specs.Forms.{either}
 use Rattle.cells.specs.Meaning.{Meaning, Sound, most_regions, most_cells, region_at, room_at, cell_at, rounded, taken}
 use Rattle.cells.specs.Calls.{put_refusal, get_refusal, open_refusal, with_cell, with_region, after_put, after_open}

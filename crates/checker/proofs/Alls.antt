@@ -1,5 +1,5 @@
 -- Loops that stop where a test fails.
-use Rattle.std.proofs.Common.{◌≡◌, Bool, true, false, ◌&&◌, ◌||◌, sym, refl, ap, ◌∙◌}
+use Rattle.std.proofs.Common.{◌≡◌, Bool, true, false, ◌&&◌, ◌||◌, sym, ap, ◌∙◌}
 
 -- where `here`, what is still to be shown, is a test and what comes behind it: the test fails, or is passed
 pub all-stop : (here whole test behind : Bool) → here ≡ whole → here ≡ (test && behind) → false ≡ test → false ≡ whole

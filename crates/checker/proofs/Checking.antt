@@ -1,5 +1,5 @@
 -- The whole check against what it accepts, and against the first fault.
-use Rattle.std.proofs.Common.{◌≡◌, ℕ, true, cond, List, is_ok, Ok, Err, Result, sym, refl, ap, ◌∙◌, subst, arith}
+use Rattle.std.proofs.Common.{◌≡◌, ℕ, true, cond, List, is_ok, Ok, Err, Result, sym, refl, ap, ◌∙◌, arith}
 use Rattle.packed.specs.declared.fault.Fault.{Fault}
 use Rattle.table.specs.declared.section.Layout.{Layout}
 use Rattle.table.specs.declared.table.Table.{Table}

@@ -1,19 +1,19 @@
 -- From one row to the next: the verdict on a row, and on the branches behind the first of a case, as the descent comes to it.
-use Rattle.std.proofs.Common.{◌≡◌, ℕ, zero, suc, ◌+◌, ◌<◌, ◌≤◌, Bool, true, false, cond, eqb, ltb, length, Some, None, Ok, Err, Option, Result, sym, refl, ap, ◌∙◌, subst, arith}
+use Rattle.std.proofs.Common.{◌≡◌, ℕ, zero, suc, ◌+◌, ◌<◌, ◌≤◌, length, Some, None, Option, Result, sym, refl, ap, subst, arith}
 use Rattle.std.specs.List.{slice_get}
 use Rattle.std.proofs.lemmas.Option.{slice_get_past}
 use Rattle.packed.specs.declared.fault.Fault.{Fault}
 use Rattle.packed.specs.declared.fault.Reason.TheVariants as reason
 use Rattle.packed.specs.Forms.{either}
 use Rattle.table.specs.declared.row.Row.{Row}
-use Rattle.table.specs.Sections.{onward, found}
+use Rattle.table.specs.Sections.{onward}
 use Rattle.checker.specs.declared.kind.Kind.{Kind}
 use Rattle.checker.specs.declared.context.Context.{Context}
 use Rattle.checker.specs.declared.context.Progress.{Progress}
 use Rattle.checker.specs.Contexts.{with_progress}
 use Rattle.checker.specs.Conditions.{Program}
 use Rattle.checker.specs.Giving.{Gives}
-use Rattle.checker.specs.Verdict.{Done, Arm, Answer, refused, asking, done_with, alike, Reader, row_of, branch_at, following, term_of, follow_of}
+use Rattle.checker.specs.Verdict.{Done, Arm, Answer, refused, asking, alike, Reader, row_of, branch_at, following, term_of, follow_of}
 
 module _ (P : Program) where
   pub term-none : (n : ℕ) (c : Context) → None ≡ slice_get P.rows n → (f : ℕ) → term_of P f n c ≡ refused reason.RowOrder n

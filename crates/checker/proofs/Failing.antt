@@ -10,7 +10,6 @@ use Rattle.packed.specs.Forms.{either}
 use Rattle.table.specs.declared.row.Row.{Row}
 use Rattle.table.specs.declared.row.Row.TheVariants as row
 use Rattle.table.specs.Sections.{onward, found}
-use Rattle.checker.specs.declared.kind.Kind.{Kind}
 use Rattle.checker.specs.declared.kind.Kind.TheVariants as kind
 use Rattle.checker.specs.declared.context.Context.{Context}
 use Rattle.checker.specs.declared.context.Location.{Location}

@@ -1,6 +1,5 @@
 -- Tables by name: what is read and written at a name.
 use Rattle.std.proofs.Common.{◌≡◌, ℕ, suc, ◌+◌, ◌-◌, ◌<◌, ◌≤◌, Bool, true, false, not, ◌&&◌, List, length, get_or, set, is_some, Some, None, Option, sym, refl, ap, ◌∙◌, arith}
-use Rattle.std.specs.List.{slice_get}
 use Rattle.std.proofs.lemmas.Option.{slice_get-get_or, slice_get_past}
 use Rattle.packed.specs.Forms.{either}
 use Rattle.checker.specs.Contexts.{at, fresh, is_in, all_fresh, fill, clear}

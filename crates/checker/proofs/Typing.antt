@@ -18,7 +18,7 @@ use Rattle.checker.specs.declared.context.Location.{Location}
 use Rattle.checker.specs.declared.context.Rule.TheVariants as rule
 use Rattle.checker.specs.declared.context.Frontier.{Frontier}
 use Rattle.checker.specs.declared.context.Frontier.TheVariants as frontier
-use Rattle.checker.specs.Contexts.{at, is_in, kind_of, same_kind, lies_within, lies_at, is_at, region_of, frontier_in, with_variable, with_progress, opened, placed, written, left, parted, unparted, begun}
+use Rattle.checker.specs.Contexts.{at, is_in, kind_of, same_kind, lies_within, lies_at, is_at, region_of, frontier_in, with_variable, with_progress, opened, placed, left, parted, unparted, begun}
 use Rattle.checker.specs.Conditions.{Program, takes_apart}
 use Rattle.checker.specs.Verdict.{Done, Arm, Answer, refused, asking, done_with, same_value, same_frontier, same_bit, same_list, same_progress, alike, asked, Reader, further, settled, locating, binding, testing, branching, branch_at, home_of, Follower, following, choosing, row_with, row_of, term_of, follow_of, ended, body_of, bodies_of, verdict_of}
 use Rattle.checker.specs.Rules.{Asked, Settled, Typed, Arms, Branch, Body, WellTyped, variable, number, sum, difference, region, start, past, after, construct, bind, test, call, case, last, more, branch}

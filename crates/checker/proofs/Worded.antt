@@ -16,8 +16,7 @@ use Rattle.checker.specs.declared.context.Frontier.{Frontier}
 use Rattle.checker.specs.declared.context.Frontier.TheVariants as frontier
 use Rattle.checker.specs.Contexts.{at, used, fresh, is_in, all_fresh, kind_of, same_kind, is_nothing, is_at, frontier_at, parts}
 use Rattle.checker.specs.Conditions.{Program, has_kind, all_used, all_have, four_integers, is_tree, any_tree, same_rule, place_of, has_rule, ruled_place, chained, branch_form, branch_next, covers, takes_apart, as_tree, construct_names, construct_kinds, construct_places, call_names, call_kinds, call_places, names, kinds, rules, places}
-use Rattle.checker.specs.Rules.{Asked}
-use Rattle.checker.specs.Asking.{Used, Free, In, Has, integer, tree, Chain, ended, longer, Covered, no_more, of_another, of_it, IntegerPart, AllUsed, AllFree, ConstructNamed, ConstructKinded, ConstructPlaced, CallNamed, CallKinded, CallPlaced, BranchNamed, Named, Kinded, Fronted, Placed, Asks, Worded}
+use Rattle.checker.specs.Asking.{Used, Free, In, Has, integer, tree, Chain, ended, longer, Covered, no_more, of_another, of_it, IntegerPart, AllUsed, AllFree, ConstructNamed, ConstructKinded, ConstructPlaced, CallNamed, CallKinded, CallPlaced, BranchNamed, Named, Kinded, Fronted, Placed, Worded}
 use Rattle.checker.proofs.Inversions.{true-false, some-none, and-true, true-and, same_of, same_self}
 
 -- A truth value and what it says.

@@ -1,6 +1,6 @@
 -- What a row asks before its children, in the words of the rules: facts on what names stand for, and no loop. `Worded` says that
 -- these are the conditions that the check computes.
-use Rattle.std.specs.Prelude.{◌≡◌, ℕ, zero, suc, ◌+◌, ◌<◌, ◌≤◌, Bool, true, List, [], ◌∷◌, Some, None, Option, ◌≢◌, slice_index}
+use Rattle.std.specs.Prelude.{◌≡◌, ℕ, suc, ◌+◌, ◌<◌, ◌≤◌, Bool, true, List, [], ◌∷◌, Some, None, Option, ◌≢◌, slice_index}
 use Rattle.std.specs.List.{slice_get}
 use Rattle.packed.specs.declared.constructor.Constructor.{Constructor}
 use Rattle.table.specs.declared.function.Function.{Function}

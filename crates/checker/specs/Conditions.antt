@@ -1,5 +1,5 @@
 -- What the check asks of a row before its children, by the number under which it is refused.
-use Rattle.std.specs.Prelude.{ℕ, zero, suc, ◌+◌, Bool, true, false, cond, not, ◌&&◌, ◌||◌, List, [], ◌∷◌, Some, None, Option, ◌==◌, nat_eq, slice_index}
+use Rattle.std.specs.Prelude.{ℕ, zero, suc, ◌+◌, Bool, true, false, cond, ◌&&◌, ◌||◌, List, [], ◌∷◌, Some, None, Option, ◌==◌, nat_eq, slice_index}
 use Rattle.std.specs.List.{slice_get}
 use Rattle.packed.specs.declared.constructor.Constructor.{Constructor}
 use Rattle.packed.specs.Forms.{either}
@@ -9,10 +9,9 @@ use Rattle.table.specs.declared.row.Row.TheVariants as row
 use Rattle.checker.specs.declared.kind.Kind.{Kind}
 use Rattle.checker.specs.declared.kind.Kind.TheVariants as kind
 use Rattle.checker.specs.declared.context.Context.{Context}
-use Rattle.checker.specs.declared.context.Location.{Location}
 use Rattle.checker.specs.declared.context.Rule.{Rule}
 use Rattle.checker.specs.declared.context.Rule.TheVariants as rule
-use Rattle.checker.specs.Contexts.{at, used, fresh, is_in, all_fresh, kind_of, same_kind, is_nothing, is_at, frontier_in, frontier_at, parts}
+use Rattle.checker.specs.Contexts.{at, used, fresh, is_in, all_fresh, kind_of, same_kind, is_nothing, is_at, frontier_at, parts}
 
 -- what a table holds: constructors by number, functions, rows
 pub record Program : Type 0 where

@@ -1,5 +1,5 @@
 -- Contexts: what is in scope, how far regions are written, and how a row changes these.
-use Rattle.std.specs.Prelude.{ℕ, zero, suc, ◌+◌, ◌-◌, Bool, true, false, cond, not, ◌&&◌, ◌||◌, List, [], ◌∷◌, set, replicate, Some, None, Option, ◌==◌, nat_le, nat_lt, slice_index, slice_set}
+use Rattle.std.specs.Prelude.{ℕ, zero, suc, ◌+◌, ◌-◌, Bool, true, false, cond, ◌&&◌, List, set, replicate, Some, None, Option, ◌==◌, nat_le, nat_lt, slice_index, slice_set}
 use Rattle.std.specs.List.{slice_get}
 use Rattle.packed.specs.declared.constructor.Constructor.{Constructor}
 use Rattle.packed.specs.Forms.{either}
@@ -9,7 +9,6 @@ use Rattle.checker.specs.declared.kind.Kind.TheVariants as kind
 use Rattle.checker.specs.declared.context.Context.{Context}
 use Rattle.checker.specs.declared.context.Progress.{Progress}
 use Rattle.checker.specs.declared.context.Location.{Location}
-use Rattle.checker.specs.declared.context.Rule.{Rule}
 use Rattle.checker.specs.declared.context.Rule.TheVariants as rule
 use Rattle.checker.specs.declared.context.Frontier.{Frontier}
 use Rattle.checker.specs.declared.context.Frontier.TheVariants as frontier

@@ -1,5 +1,5 @@
 -- From the words of a command to its reply.
-use Rattle.std.proofs.Common.{◌≡◌, ℕ, List, IfOk, Some, None, Ok, Err, Option, Result, ap, ◌∙◌}
+use Rattle.std.proofs.Common.{◌≡◌, ℕ, List, IfOk, Some, Ok, Err, Option, Result, ap, ◌∙◌}
 use Rattle.packed.specs.declared.node.Node.{Node}
 use Rattle.packed.specs.Forms.{either}
 use Rattle.words.specs.Hex.{written}

@@ -1,5 +1,5 @@
 -- From a table that was checked to the types that a command names.
-use Rattle.std.proofs.Common.{◌≡◌, ℕ, cond, List, is_ok, Ok, Err, Result, sym, refl, ap, ◌∙◌}
+use Rattle.std.proofs.Common.{◌≡◌, ℕ, cond, List, is_ok, Ok, Err, Result, sym, ap, ◌∙◌}
 use Rattle.packed.specs.declared.fault.Fault.{Fault}
 use Rattle.table.specs.declared.section.Layout.{Layout}
 use Rattle.table.specs.declared.table.Table.{Table}

@@ -1,5 +1,5 @@
 -- What the program answers of a line.
-use Rattle.std.specs.Prelude.{ℕ, List, [], ◌∷◌, Some, None, Ok, Err, vec_items, codes, Option, Result}
+use Rattle.std.specs.Prelude.{ℕ, List, None, Ok, Err, vec_items, codes, Option, Result}
 use Rattle.std.specs.Option.{option_map}
 use Rattle.packed.specs.declared.fault.Fault.{Fault}
 use Rattle.packed.specs.declared.node.Node.{Node}

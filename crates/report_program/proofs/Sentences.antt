@@ -1,5 +1,5 @@
 -- The sentence of 32, by its layer.
-use Rattle.std.proofs.Common.{◌≡◌, ℕ, true, false, cond, codes, sym, ap, eq-eqb, ne_eqb}
+use Rattle.std.proofs.Common.{◌≡◌, ℕ, cond, sym, ap, eq-eqb, ne_eqb}
 use Rattle.report_program.specs.Refusing.{kind_sentence, no_type, wrong_kind}
 
 pub kind-in-call : (layer : ℕ) → layer ≡ 4 → no_type ≡ kind_sentence layer

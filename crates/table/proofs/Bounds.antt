@@ -1,8 +1,8 @@
 -- A row that is out of order is one of the rows, or the one behind them.
-use Rattle.std.proofs.Common.{◌≡◌, ℕ, suc, ◌+◌, ◌<◌, ◌≤◌, min, Bool, true, false, cond, eqb, List, [], ◌∷◌, ◌++◌, length, Some, None, Option, refl, ap, arith}
+use Rattle.std.proofs.Common.{◌≡◌, ℕ, suc, ◌+◌, ◌<◌, ◌≤◌, min, Bool, true, false, cond, eqb, List, [], ◌∷◌, ◌++◌, length, Some, None, Option, refl, arith}
 use Rattle.table.specs.declared.row.Row.{Row}
 use Rattle.table.specs.declared.row.Row.TheVariants as row
-use Rattle.table.specs.Order.{Due, children, furthers, stands, misnamed, least, disorder, bodies}
+use Rattle.table.specs.Order.{Due, children, stands, misnamed, least, disorder, bodies}
 use Rattle.table.specs.Order.Due.{body, child, later, branch, further}
 
 -- rows that are held for what is due lie before it

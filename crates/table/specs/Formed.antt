@@ -3,7 +3,6 @@ use Rattle.std.specs.Prelude.{◌≡◌, ℕ, ◌<◌, true, List, map, None, sl
 use Rattle.packed.specs.Forms.{limit_of}
 use Rattle.table.specs.declared.section.Layout.{Layout}
 use Rattle.table.specs.Laid.{Laid}
-use Rattle.table.specs.Meaning.{fair_function, fair_row}
 use Rattle.table.specs.Spans.{Bodies}
 use Rattle.table.specs.Table.{sizes_in, constructors_in, functions_in, rows_in, fair_function_at, fair_row_at}
 

@@ -1,6 +1,6 @@
 -- What one turn of a loop over pieces keeps: what the pieces so far stand for, before what the rest stands for, is what the whole
 -- text stands for. `sep` lies between the pieces, and `read` reads one.
-use Rattle.std.proofs.Common.{◌≡◌, ℕ, Bool, true, false, cond, eqb, List, [], ◌∷◌, ◌++◌, Some, None, Option, sym, refl, ap, ◌∙◌, append_assoc, append-nil}
+use Rattle.std.proofs.Common.{◌≡◌, ℕ, Bool, true, false, cond, eqb, List, [], ◌∷◌, ◌++◌, Some, None, Option, sym, refl, ap, ◌∙◌, append_assoc}
 use Rattle.std.specs.Option.{option_map}
 use Rattle.packed.specs.Forms.{either}
 use Rattle.words.specs.Text.{head_of, tail_of, onto, pieces, ahead, each_of}

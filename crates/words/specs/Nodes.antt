@@ -1,5 +1,5 @@
 -- Nodes that are written as text.
-use Rattle.std.specs.Prelude.{ℕ, cond, ◌&&◌, List, [], ◌∷◌, map, length, ℤ, Some, None, Option, ◌==◌, slice_index}
+use Rattle.std.specs.Prelude.{ℕ, cond, ◌&&◌, List, [], ◌∷◌, length, ℤ, Some, None, Option, ◌==◌, slice_index}
 use Rattle.packed.specs.declared.node.Node.{Node}
 use Rattle.packed.specs.Forms.{either}
 use Rattle.words.specs.Text.{head_of, tail_of, pieces, each_of}

@@ -1,4 +1,4 @@
-use Rattle.std.proofs.Common.{sym, ◌∙◌, arith}
+use Rattle.std.proofs.Common.{arith}
 use Rattle.checker.proofs.Alls.{all-stop, all_go}
 use Rattle.checker.proofs.Naming.{fresh-more}
 use Rattle.checker.proofs.names.are_fresh.Goals as goal

@@ -5,9 +5,9 @@ use Rattle.report_program.proofs.program.written.Goals as goal
 
 pub returns : goal.returns
 returns c =
-    let long = c.in-ok-long.long in
+    let long = c.in_ok-long.long in
     let out = c.write.new.out in
-    let whole = with_items_is c.in-ok-bytes.bytes out (c.write.auto.out ∙ c.as-mut-slice.ensures.len) in
+    let whole = with_items_is c.in_ok-bytes.bytes out (c.write.auto.out ∙ c.as_mut_slice.ensures.len) in
     let cut : vec_items c.truncate.new.self ≡ take long out = c.truncate.ensures.items ∙ ap (take long) whole in
     let P : List ℕ → Type 0 = λ bs. ReadsBack c.args.sizes.now c.args.fields.now c.args.functions.now c.args.rows.now bs in
-    record { back = subst P (sym cut) (c.in-ok-long.ensures.back long refl) }
+    record { back = subst P (sym cut) (c.in_ok-long.ensures.back long refl) }

@@ -22,7 +22,7 @@ pub returns-in-Scope : goal.returns-in-Scope
 returns-in-Scope c = record { value = sym (ap (λ x. sentence_of c.args.layer (number_of x)) c.in-Scope.is) }
 
 pub returns-in-Kind : goal.returns-in-Kind
-returns-in-Kind c = record { value = c.kind-sentence.ensures.value ∙ sym (ap (λ x. sentence_of c.args.layer (number_of x)) c.in-Kind.is) }
+returns-in-Kind c = record { value = c.kind_sentence.ensures.value ∙ sym (ap (λ x. sentence_of c.args.layer (number_of x)) c.in-Kind.is) }
 
 pub returns-in-LocationRule : goal.returns-in-LocationRule
 returns-in-LocationRule c = record { value = sym (ap (λ x. sentence_of c.args.layer (number_of x)) c.in-LocationRule.is) }

@@ -1,4 +1,4 @@
-use Rattle.std.proofs.Common.{cond, None, sym, ap, ◌∙◌, arith}
+use Rattle.std.proofs.Common.{cond, None, ap, ◌∙◌}
 use Rattle.words.specs.Numbers.{digits_of}
 use Rattle.words.proofs.Numbering.{digits_more, digits-bad, digits-all}
 use Rattle.words.proofs.numbers.natural.Goals as goal

@@ -1,4 +1,4 @@
-use Rattle.std.proofs.Common.{sym, ap, ◌∙◌, arith}
+use Rattle.std.proofs.Common.{sym, arith}
 use Rattle.words.proofs.Cutting.{tail-is, tail_none, rest-shorter}
 use Rattle.words.proofs.text.tail.Goals as goal
 

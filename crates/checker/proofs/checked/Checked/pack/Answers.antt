@@ -2,7 +2,7 @@ use Rattle.std.proofs.Common.{length, ap, ◌∙◌, subst}
 use Rattle.packed.specs.Laws.{Judged, Accepts, UnpacksTo}
 use Rattle.packed.specs.Trees.{as_node, as_bytes}
 use Rattle.packed.specs.Packing.{pack_of, filled, bytes_of}
-use Rattle.checker.specs.Checking.{forms_held, types_held}
+use Rattle.checker.specs.Checking.{forms_held}
 use Rattle.checker.proofs.checked.Checked.pack.Goals as goal
 
 pub returns : goal.returns

@@ -2,7 +2,7 @@ use Rattle.std.proofs.Common.{length, ap, ◌∙◌, subst}
 use Rattle.packed.specs.Laws.{Judged, Accepts, PacksTo}
 use Rattle.packed.specs.Trees.{as_node, as_bytes}
 use Rattle.packed.specs.Packing.{unpack_of, filled, nodes_of}
-use Rattle.checker.specs.Checking.{forms_held, types_held}
+use Rattle.checker.specs.Checking.{forms_held}
 use Rattle.checker.proofs.checked.Checked.unpack.Goals as goal
 
 pub returns : goal.returns

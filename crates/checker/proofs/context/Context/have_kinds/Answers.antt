@@ -1,4 +1,4 @@
-use Rattle.std.proofs.Common.{◌≡◌, ◌+◌, Bool, get_or, ap, ◌∙◌, arith}
+use Rattle.std.proofs.Common.{◌+◌, get_or, ap, ◌∙◌, arith}
 use Rattle.checker.specs.Contexts.{at}
 use Rattle.checker.specs.Conditions.{has_kind}
 use Rattle.checker.proofs.Alls.{all-stop, all_go}

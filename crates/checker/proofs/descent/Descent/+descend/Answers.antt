@@ -1,5 +1,4 @@
-use Rattle.std.proofs.Common.{◌≡◌, Ok, Err, sym, refl, ap, ◌∙◌, subst, arith}
-use Rattle.table.specs.Held.{rows_of}
+use Rattle.std.proofs.Common.{◌≡◌, Err, sym, refl, ap, ◌∙◌, arith}
 use Rattle.checker.specs.Described.{program_of}
 use Rattle.checker.specs.Giving.{Gives}
 use Rattle.checker.specs.Verdict.{term_of}

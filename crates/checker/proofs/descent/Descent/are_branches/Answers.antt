@@ -1,4 +1,4 @@
-use Rattle.std.proofs.Common.{◌≤◌, length, take, arith, length-take}
+use Rattle.std.proofs.Common.{◌≤◌, length, arith, length-take}
 use Rattle.packed.specs.Shaped.{forms_of}
 use Rattle.table.specs.Held.{rows_of}
 use Rattle.checker.proofs.Covering.{covers-none, covers-done, covers-go, covers-stop}
