@@ -5,6 +5,7 @@ use crate::common::{
 };
 use packed::{Node, Shapes, pack, unpack};
 use std::alloc::Global;
+use std::process::Abort;
 use std::test::*;
 
 // Bytes that are refused as a tree of a type, with a buffer of so many nodes.
@@ -17,12 +18,12 @@ struct BadBytes<'a> {
 }
 
 impl BadBytes<'_> {
-    fn test(&self, heap: Global, shapes: &Shapes) -> Result<(), Fail> {
+    fn test(&self, rt: &impl Abort, heap: Global, shapes: &Shapes) -> Result<(), Fail> {
         let mut out = nodes_then_old(heap, &[], self.room)?;
         let old = nodes_then_old(heap, &[], self.room)?;
         let got = answer_of(unpack(shapes, self.ty, self.bytes, out.as_mut_slice()));
-        assert_eq!(got, self.answer);
-        assert!(same_nodes(&out, &old));
+        assert_eq!(rt; got, self.answer);
+        assert!(rt; same_nodes(&out, &old));
         Ok(())
     }
 }
@@ -37,12 +38,12 @@ struct BadNodes<'a> {
 }
 
 impl BadNodes<'_> {
-    fn test(&self, heap: Global, shapes: &Shapes) -> Result<(), Fail> {
+    fn test(&self, rt: &impl Abort, heap: Global, shapes: &Shapes) -> Result<(), Fail> {
         let mut out = bytes_then_old(heap, &[], self.room)?;
         let old = bytes_then_old(heap, &[], self.room)?;
         let got = answer_of(pack(shapes, self.ty, self.nodes, out.as_mut_slice()));
-        assert_eq!(got, self.answer);
-        assert_eq!(out, old);
+        assert_eq!(rt; got, self.answer);
+        assert_eq!(rt; out, old);
         Ok(())
     }
 }
@@ -106,7 +107,7 @@ fn bad_bytes(rt: HostRuntime) -> Result<(), Fail> {
         },
     ];
     for case in &cases {
-        case.test(rt.alloc(), &shapes)?;
+        case.test(&rt, rt.alloc(), &shapes)?;
     }
     Ok(())
 }
@@ -172,7 +173,7 @@ fn bad_nodes(rt: HostRuntime) -> Result<(), Fail> {
         },
     ];
     for case in &cases {
-        case.test(rt.alloc(), &shapes)?;
+        case.test(&rt, rt.alloc(), &shapes)?;
     }
     Ok(())
 }
