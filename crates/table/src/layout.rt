@@ -5,10 +5,8 @@ ghost use Rattle.table.specs.Rows.{word};
 ghost use Rattle.table.specs.Sections.{found, given, section_of, sections_of, counts_of, layout_of, within};
 ghost use Rattle.std.proofs.Common.{rules};
 
-use crate::function::Function;
-use crate::row::Row;
 use crate::section::{Layout, Section};
-use packed::{Fault, Fields, Reason};
+use packed::{Fault, Reason};
 
 // A kind of record, by how many bytes one has.
 pub trait Record {
@@ -23,8 +21,9 @@ pub trait Record {
     ghost narrow: { (0 < width) × (width < 256) };
 }
 
-// A type's record: how many constructors it has.
-impl Record for u8 {
+pub struct TypeRecord;
+
+impl Record for TypeRecord {
     const WIDTH: usize = 1;
 
     ghost width = { 1 };
@@ -36,7 +35,9 @@ impl Record for u8 {
     }
 }
 
-impl Record for Fields {
+pub struct ConstructorRecord;
+
+impl Record for ConstructorRecord {
     const WIDTH: usize = 6;
 
     ghost width = { 6 };
@@ -48,7 +49,9 @@ impl Record for Fields {
     }
 }
 
-impl Record for Function {
+pub struct FunctionRecord;
+
+impl Record for FunctionRecord {
     const WIDTH: usize = 8;
 
     ghost width = { 8 };
@@ -60,7 +63,9 @@ impl Record for Function {
     }
 }
 
-impl Record for Row {
+pub struct RowRecord;
+
+impl Record for RowRecord {
     const WIDTH: usize = 16;
 
     ghost width = { 16 };
@@ -128,10 +133,10 @@ fn sections(bytes: &[u8]) -> Result<Layout, Fault>
     ensures value { result ≡ sections_of bytes.now }
 {
     give(bytes.len() >= 1, Reason::BytesEnd, 1, 0)?;
-    let types = read_section::<u8>(bytes, 1)?;
-    let constructors = read_section::<Fields>(bytes, types.end)?;
-    let functions = read_section::<Function>(bytes, constructors.end)?;
-    let rows = read_section::<Row>(bytes, functions.end)?;
+    let types = read_section::<TypeRecord>(bytes, 1)?;
+    let constructors = read_section::<ConstructorRecord>(bytes, types.end)?;
+    let functions = read_section::<FunctionRecord>(bytes, constructors.end)?;
+    let rows = read_section::<RowRecord>(bytes, functions.end)?;
     Ok(Layout {
         types,
         constructors,

@@ -15,14 +15,12 @@ ghost use Rattle.table.specs.Formed.{Formed};
 ghost use Rattle.table.specs.First.{First};
 ghost use Rattle.table.specs.Laid.{Laid};
 
-use crate::function::Function;
 use crate::functions::Functions;
 use crate::judge::{FunctionJudge, RowJudge, all_fair};
-use crate::layout::{fault, give, layout};
+use crate::layout::{FunctionRecord, RowRecord, fault, give, layout};
 use crate::meaning::Referents;
 use crate::order::out_of_order;
 use crate::parts::Parts;
-use crate::row::Row;
 use crate::rows::Rows;
 use crate::section::Layout;
 use packed::{Fault, Fields, Limit, Reason, Shapes};
@@ -143,7 +141,7 @@ fn meaning(bytes: &[u8], layout: &Layout) -> Result<Shapes, Fault>
         types: layout.types.count,
         functions,
     };
-    all_fair::<Function, FunctionJudge>(
+    all_fair::<FunctionRecord, FunctionJudge>(
         &function_judge,
         layout.functions.start,
         layout.functions.count,
@@ -151,7 +149,7 @@ fn meaning(bytes: &[u8], layout: &Layout) -> Result<Shapes, Fault>
     let referents = Referents { shapes, functions };
     let rows = &bytes[layout.rows.start..layout.rows.end];
     let row_judge = RowJudge { referents, rows };
-    all_fair::<Row, RowJudge>(&row_judge, layout.rows.start, layout.rows.count)?;
+    all_fair::<RowRecord, RowJudge>(&row_judge, layout.rows.start, layout.rows.count)?;
     Ok(shapes)
 }
 

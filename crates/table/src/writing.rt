@@ -1,9 +1,10 @@
 // Writing: a whole table from its records.
 ghost use Rattle.std.specs.Prelude.{◌≡◌, ℕ, ◌+◌, ◌*◌, ◌<◌, ◌≤◌, List, ◌++◌, length, take, drop, Some, Ok};
 ghost use Rattle.std.specs.List.{slice_get};
+ghost use Rattle.std.proofs.Common.{rules};
 ghost use Rattle.packed.specs.Buffers.{Front};
 ghost use Rattle.packed.specs.Packing.{filled};
-ghost use Rattle.packed.specs.Trees.{low as bytesOfWord};
+ghost use Rattle.packed.specs.Trees.{low as bytes_of_word};
 ghost use Rattle.table.specs.Encoding.{row_bytes};
 ghost use Rattle.table.specs.Meaning.{fields_of, function_of};
 ghost use Rattle.table.specs.Rows.{row_of};
@@ -33,7 +34,7 @@ fn put(out: &mut [u8], at: usize, bytes: &[u8])
 fn put_count(out: &mut [u8], at: usize, count: usize)
     requires room { at + 2 ≤ length out.old }
     requires few { count ≤ 65535 }
-    ensures after { (word old : List ℕ) → Front word old at out.old → Front (word ++ bytesOfWord 2 count) old (at + 2) out.new }
+    ensures after { (word old : List ℕ) → Front word old at out.old → Front (word ++ bytes_of_word 2 count) old (at + 2) out.new }
 {
     let word = count as u16;
     put(out, at, &[low(word), high(word)]);
@@ -50,6 +51,43 @@ pub trait Spelled: Record {
         requires { at + Self.Record.width ≤ length out.old }
         ensures after { (word old : List ℕ) → Front word old at out.old → Front (word ++ spell self.now) old (at + Self.Record.width) out.new }
         ensures back { back self.now };
+}
+
+// The widths of the records that are written, which are those of the sections that are read.
+impl Record for Fields {
+    const WIDTH: usize = 6;
+
+    ghost width = { 6 };
+
+    ghost narrow = { Prim.search rules };
+
+    fn stride() -> usize {
+        Self::WIDTH
+    }
+}
+
+impl Record for Function {
+    const WIDTH: usize = 8;
+
+    ghost width = { 8 };
+
+    ghost narrow = { Prim.search rules };
+
+    fn stride() -> usize {
+        Self::WIDTH
+    }
+}
+
+impl Record for Row {
+    const WIDTH: usize = 16;
+
+    ghost width = { 16 };
+
+    ghost narrow = { Prim.search rules };
+
+    fn stride() -> usize {
+        Self::WIDTH
+    }
 }
 
 fn fields_bytes(fields: &Fields) -> [u8; 6]

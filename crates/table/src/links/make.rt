@@ -35,7 +35,8 @@ fn taker_at(rows: &Rows, takers: &[u16; ROOM], n: usize) -> u16
 
 // Each row's taker.
 fn takers_of(rows: &Rows) -> [u16; ROOM]
-    ensures value { (n : ℕ) → link_in result n ≡ taker_for (rows_of rows.now) n }
+    ensures value { (n : ℕ) → n < length (rows_of rows.now) → link_in result n ≡ taker_of (rows_of rows.now) n }
+    ensures all { (n : ℕ) → link_in result n ≡ taker_for (rows_of rows.now) n }
 {
     let mut takers = [NONE; ROOM];
     // Row 0 has none, since no row is below it.
@@ -60,7 +61,8 @@ fn lead(rows: &Rows, n: usize, own: u16) -> (usize, u16)
 
 // Each row's case.
 fn cases_of(rows: &Rows) -> [u16; ROOM]
-    ensures value { (n : ℕ) → link_in result n ≡ case_for (rows_of rows.now) n }
+    ensures value { (n : ℕ) → n < length (rows_of rows.now) → link_in result n ≡ case_of (rows_of rows.now) n }
+    ensures all { (n : ℕ) → link_in result n ≡ case_for (rows_of rows.now) n }
 {
     let mut cases = [NONE; ROOM];
     let count = rows.len();

@@ -7,10 +7,10 @@ use Rattle.table.proofs.links.make.takers_of.Goals as goal
 pub loop-n-init : goal.loop-n-init
 loop-n-init c = takers-none (rows_of c.args.rows.now) 1024 refl
 
-pub returns : goal.returns
-returns c =
+pub returns-clause-all : goal.returns-clause-all
+returns-clause-all c =
     let rows = rows_of c.args.rows.now in
     let counted = c.len-n-end.ensures.value in
     let few = c.len-n-end.ensures.bound in
     let inv = c.loop-n.invariant in
-    record { value = links-all rows c.loop-n.takers (taker_of rows) (omega arith) (λ k h. inv.known k (omega arith)) inv.behind }
+    links-all rows c.loop-n.takers (taker_of rows) (omega arith) (λ k h. inv.known k (omega arith)) inv.behind
