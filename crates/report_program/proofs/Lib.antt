@@ -1,2 +1,1 @@
-mod Sentences
 pub mod Copied

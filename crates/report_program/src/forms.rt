@@ -7,6 +7,7 @@ pub const FOLDERS: u8 = 0;
 pub const ENTRIES: u8 = 1;
 
 pub const AGE: u8 = 2;
+
 // What stands where a constructor has no subtree.
 pub const NONE: u8 = 255;
 

@@ -59,7 +59,7 @@ fn main(rt: HostRuntime) -> ExitCode {
     match run(&rt) {
         Ok(()) => ExitCode::SUCCESS,
         Err(trouble) => {
-            let _ = eprintln!(rt; "no report: {trouble}");
+            let _ = eprintln!(rt; "the program is not shown: {trouble}");
             ExitCode::FAILURE
         }
     }

@@ -1,7 +1,7 @@
 // How refusals are written.
 ghost use Rattle.std.specs.Prelude.{◌≡◌};
 ghost use Rattle.packed.specs.Faults.{number_of};
-ghost use Rattle.report_program.specs.Refusing.{kind_sentence, sentence_of};
+ghost use Rattle.report_program.specs.Refusing.{sentence_of};
 
 use crate::trouble::Trouble;
 use packed::{Fault, Reason};
@@ -14,23 +14,9 @@ pub struct Refusal<'a> {
     pub fault: Fault,
 }
 
-// The layer of calls, above those of tables.
-const CALL_LAYER: u8 = 4;
-
-// A call asks for a type, a row for a value of a kind.
-fn kind_sentence(layer: u8) -> &'static str
-    ensures value { result.now ≡ kind_sentence layer }
-{
-    if layer == CALL_LAYER {
-        "there is no such type"
-    } else {
-        "a value, or the branches of a case, are not of the kind that the row asks for"
-    }
-}
-
-// Why a table, a call of packing or one of unpacking is refused, in words.
-fn sentence(reason: Reason, layer: u8) -> &'static str
-    ensures value { result.now ≡ sentence_of layer (number_of reason) }
+// Why a table, or a call of a store, is refused, in words.
+fn sentence(reason: Reason) -> &'static str
+    ensures value { result.now ≡ sentence_of (number_of reason) }
 {
     match reason {
         Reason::BytesEnd => "the bytes end before the rows do",
@@ -39,13 +25,15 @@ fn sentence(reason: Reason, layer: u8) -> &'static str
         Reason::Meaning => "a number here has no meaning",
         Reason::RowOrder => "the rows are out of order here",
         Reason::Scope => "a name that the row uses is not in scope, or one that it binds is",
-        Reason::Kind => kind_sentence(layer),
+        Reason::Kind => {
+            "a value, or the branches of a case, are not of the kind that the row asks for"
+        }
         Reason::LocationRule => "a location is named where nothing may be written next",
         Reason::Unwritten => "a tree is not written where it has to stand",
         Reason::ChildLeft => "what follows leaves the location empty, or gives what lies there",
         Reason::ArmsDiffer => "two arms do not end alike",
-        Reason::NotOneTree => "this is not exactly one tree of the type",
         Reason::ShortBuffer => "the buffer is too short",
+        Reason::OpenRefused => "the store has no room for as many cells",
         _ => "this is refused elsewhere",
     }
 }
@@ -56,7 +44,7 @@ impl<'a> fmt::Display for Refusal<'a> {
         let number = self.fault.number();
         let layer = self.fault.layer;
         let place = self.fault.place;
-        let why = sentence(self.fault.reason, layer);
+        let why = sentence(self.fault.reason);
         write!(
             f,
             "{tried}: refused with {number}, layer {layer}, place {place}: {why}"

@@ -1,7 +1,6 @@
 // Writing: a whole table from its records.
 ghost use Rattle.std.specs.Prelude.{◌≡◌, ℕ, ◌+◌, ◌*◌, ◌<◌, ◌≤◌, List, ◌++◌, length, take, drop, Some, Ok};
 ghost use Rattle.std.specs.List.{slice_get};
-ghost use Rattle.std.proofs.Common.{rules};
 ghost use Rattle.packed.specs.Buffers.{Front};
 ghost use Rattle.packed.specs.Packing.{filled};
 ghost use Rattle.packed.specs.Trees.{low as bytes_of_word};
@@ -12,7 +11,7 @@ ghost use Rattle.table.specs.Writing.{fields_bytes, function_bytes, ReadsBack, s
 
 use crate::encoding::{high, low};
 use crate::function::Function;
-use crate::layout::{Record, give};
+use crate::layout::{ConstructorRecord, FunctionRecord, Record, RowRecord, give};
 use crate::row::Row;
 use packed::{Fault, Fields, Reason};
 
@@ -40,54 +39,17 @@ fn put_count(out: &mut [u8], at: usize, count: usize)
     put(out, at, &[low(word), high(word)]);
 }
 
-// A record that can be written.
-pub trait Spelled: Record {
+// A record of the kind R, as it is written: its bytes are as many as R's width says.
+pub trait Spelled<R: Record> {
     ghost spell: { Self → List ℕ };
 
     // its bytes describe it
     ghost back: { Self → Type 0 };
 
     fn put(&self, out: &mut [u8], at: usize)
-        requires { at + Self.Record.width ≤ length out.old }
-        ensures after { (word old : List ℕ) → Front word old at out.old → Front (word ++ spell self.now) old (at + Self.Record.width) out.new }
+        requires { at + R.Record.width ≤ length out.old }
+        ensures after { (word old : List ℕ) → Front word old at out.old → Front (word ++ spell self.now) old (at + R.Record.width) out.new }
         ensures back { back self.now };
-}
-
-// The widths of the records that are written, which are those of the sections that are read.
-impl Record for Fields {
-    const WIDTH: usize = 6;
-
-    ghost width = { 6 };
-
-    ghost narrow = { Prim.search rules };
-
-    fn stride() -> usize {
-        Self::WIDTH
-    }
-}
-
-impl Record for Function {
-    const WIDTH: usize = 8;
-
-    ghost width = { 8 };
-
-    ghost narrow = { Prim.search rules };
-
-    fn stride() -> usize {
-        Self::WIDTH
-    }
-}
-
-impl Record for Row {
-    const WIDTH: usize = 16;
-
-    ghost width = { 16 };
-
-    ghost narrow = { Prim.search rules };
-
-    fn stride() -> usize {
-        Self::WIDTH
-    }
 }
 
 fn fields_bytes(fields: &Fields) -> [u8; 6]
@@ -116,7 +78,7 @@ fn function_bytes(function: &Function) -> [u8; 8]
     ]
 }
 
-impl Spelled for Fields {
+impl Spelled<ConstructorRecord> for Fields {
     ghost spell = { fields_bytes };
 
     ghost back = { λ f. fields_of (fields_bytes f) ≡ f };
@@ -127,7 +89,7 @@ impl Spelled for Fields {
     }
 }
 
-impl Spelled for Function {
+impl Spelled<FunctionRecord> for Function {
     ghost spell = { function_bytes };
 
     ghost back = { λ f. function_of (function_bytes f) ≡ f };
@@ -138,7 +100,7 @@ impl Spelled for Function {
     }
 }
 
-impl Spelled for Row {
+impl Spelled<RowRecord> for Row {
     ghost spell = { row_bytes };
 
     ghost back = { λ r. row_of (row_bytes r) ≡ Some r };
@@ -150,28 +112,28 @@ impl Spelled for Row {
 }
 
 // Writes records one behind the other, from `at` on.
-fn put_records<T: Spelled>(records: &[T], out: &mut [u8], at: usize)
+fn put_records<R: Record, T: Spelled<R>>(records: &[T], out: &mut [u8], at: usize)
     requires few { length records.now ≤ 65535 }
-    requires room { at + length records.now * T.Record.width ≤ length out.old }
-    ensures after { (word old : List ℕ) → Front word old at out.old → Front (word ++ spelt T.Spelled.spell records.now) old (at + length records.now * T.Record.width) out.new }
+    requires room { at + length records.now * R.Record.width ≤ length out.old }
+    ensures after { (word old : List ℕ) → Front word old at out.old → Front (word ++ spelt T.Spelled.spell records.now) old (at + length records.now * R.Record.width) out.new }
     ensures back { (k : ℕ) (x : T) → slice_get records.now k ≡ Some x → T.Spelled.back x }
 {
     for i in 0..records.len() {
-        records[i].put(out, at + i * T::stride());
+        records[i].put(out, at + i * R::stride());
     }
 }
 
 // Writes a section, its count first, from `at` on, and answers where it ends.
-fn put_section<T: Spelled>(records: &[T], out: &mut [u8], at: usize) -> usize
+fn put_section<R: Record, T: Spelled<R>>(records: &[T], out: &mut [u8], at: usize) -> usize
     requires few { length records.now ≤ 65535 }
-    requires room { at + 2 + length records.now * T.Record.width ≤ length out.old }
-    ensures end { result ≡ at + 2 + length records.now * T.Record.width }
+    requires room { at + 2 + length records.now * R.Record.width ≤ length out.old }
+    ensures end { result ≡ at + 2 + length records.now * R.Record.width }
     ensures after { (word old : List ℕ) → Front word old at out.old → Front (word ++ section_bytes T.Spelled.spell records.now) old result out.new }
     ensures back { (k : ℕ) (x : T) → slice_get records.now k ≡ Some x → T.Spelled.back x }
 {
     put_count(out, at, records.len());
-    put_records(records, out, at + 2);
-    at + 2 + records.len() * T::stride()
+    put_records::<R, T>(records, out, at + 2);
+    at + 2 + records.len() * R::stride()
 }
 
 // Writes a table at the front.
@@ -187,9 +149,9 @@ fn put_table(sizes: &[u8], fields: &[Fields], functions: &[Function], rows: &[Ro
     put(out, 0, &[1]);
     put_count(out, 1, sizes.len());
     put(out, 3, sizes);
-    let constructors_end = put_section(fields, out, 3 + sizes.len());
-    let functions_end = put_section(functions, out, constructors_end);
-    put_section(rows, out, functions_end);
+    let constructors_end = put_section::<ConstructorRecord, Fields>(fields, out, 3 + sizes.len());
+    let functions_end = put_section::<FunctionRecord, Function>(functions, out, constructors_end);
+    put_section::<RowRecord, Row>(rows, out, functions_end);
 }
 
 // Writes the table with these records into the front of `out`, and answers how many bytes it took.

@@ -12,14 +12,14 @@ pub put-requires : goal.put-requires
 put-requires g c =
     let wide = ap (λ n. c.loop-i.i * n) c.stride.ensures.value in
     let below : suc c.loop-i.i ≤ length c.args.records.now = omega arith in
-    let a = mul-le-mul_right g.T.Record.width below in
-    let b = suc-mul c.loop-i.i g.T.Record.width in
+    let a = mul-le-mul_right g.R.Record.width below in
+    let b = suc-mul c.loop-i.i g.R.Record.width in
     let room = c.requires.room in
     omega arith
 
 pub loop-i-preserved : goal.loop-i-preserved
 loop-i-preserved g c =
-    let w = g.T.Record.width in
+    let w = g.R.Record.width in
     let spell = g.T.Spelled.spell in
     let xs = c.args.records.now in
     let at = c.args.at in
@@ -28,7 +28,7 @@ loop-i-preserved g c =
     let wide = ap (λ n. at + i * n) c.stride.ensures.value in
     let below = c.loop-i-test.true in
     let here = slice_get_read xs (length xs) i x refl below c.index-records-i.is in
-    let more : c.args.at + c.loop-i.i * c.stride.result + g.T.Record.width ≡ c.args.at + (c.loop-i.i + 1) * g.T.Record.width =
+    let more : c.args.at + c.loop-i.i * c.stride.result + g.R.Record.width ≡ c.args.at + (c.loop-i.i + 1) * g.R.Record.width =
     (let a = ap (λ n. n * w) (add-one i) in let b = suc-mul i w in omega arith) in (
       λ word old f. front_same
           (append_assoc word (spelt spell (take i xs)) (spell x) ∙ ap (λ l. word ++ l) (ap (λ v. spelt spell (take i xs) ++ spell v) c.index-records-i.is ∙ spelt-push spell xs i x below))
@@ -42,7 +42,7 @@ loop-i-preserved g c =
 
 pub returns : goal.returns
 returns g c =
-    let w = g.T.Record.width in
+    let w = g.R.Record.width in
     let spell = g.T.Spelled.spell in
     let xs = c.args.records.now in
     let at = c.args.at in
