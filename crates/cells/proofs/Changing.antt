@@ -22,7 +22,7 @@ taken-set g (x ∷ xs) (suc r) cells e = ap (λ (n : ℕ). rounded g (length x) 
 
 pub none-since : (o : Option ℕ) → is_some o ≡ false → o ≡ None
 none-since None e = refl
-none-since (Some x) e = absurd (let z : ◌≡◌ {A = ℕ} 0 1 = cc in omega arith)
+none-since (Some x) e = cc
 
 pub put-known : (m : Meaning) (r i : ℕ) → put_refusal m r i ≡ None → r < length m.regions
 put-known m r i fine = grind (arith, nat_tests)
@@ -34,7 +34,7 @@ pub put-into-empty : (m : Meaning) (r i : ℕ) → put_refusal m r i ≡ None �
 put-into-empty m r i fine = ⊎_elim
     (λ (e : is_some (cell_at m r i) ≡ true).
     let f = put-filled m r i (put-known m r i fine) (put-inside m r i fine) e in
-    absurd (let z : ◌≡◌ {A = ℕ} 0 1 = cc in omega arith))
+    cc)
     (λ (e : is_some (cell_at m r i) ≡ false). none-since (cell_at m r i) e)
     (cases_Bool (is_some (cell_at m r i)))
 
@@ -104,7 +104,7 @@ filled-known m s j c e = ⊎_elim
     (λ (h : s < length m.regions). h)
     (λ (h : length m.regions ≤ s).
     let none : cell_at m s j ≡ None = ap (λ (xs : List (Option ℕ)). get_or xs j None) (get_or_past m.regions s [] h) in
-    absurd (let z : ◌≡◌ {A = ℕ} 0 1 = cc in omega arith))
+    cc)
     (cases_lt s (length m.regions))
 
 pub sound-cell : (m : Meaning) (r i b : ℕ) → r < length m.regions → i < room_at m r → Sound m → Sound (with_cell m r i b)
@@ -159,7 +159,7 @@ all_laws = record {
   stays_put = λ m r i b s j c e. after-put (λ x. cell_at x s j ≡ Some c) m r i b e (λ fine.
       cell_other m r i b (put-known m r i fine) (put-inside m r i fine) s j (λ same.
       let q : cell_at m s j ≡ None = rw (same.0, same.1) (put-into-empty m r i fine) in
-      let z : ◌≡◌ {A = ℕ} 0 1 = cc in omega arith) ∙ e);
+      cc) ∙ e);
   stays_open = λ m n s j c e. open-after (λ x. cell_at x s j ≡ Some c) m n e (λ fine. ap (λ (xs : List (Option ℕ)). get_or xs j None) (region-old m n s (filled-known m s j c e)) ∙ e);
   sound_new = λ n g h. record { grained = h; few = omega arith; roomy = λ r l. absurd (omega arith); whole = omega arith };
   sound_put = λ m r i b sound. after-put Sound m r i b sound (λ fine. sound-cell m r i b (put-known m r i fine) (put-inside m r i fine) sound);

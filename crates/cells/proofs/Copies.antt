@@ -1,15 +1,14 @@
 -- Bytes put one by one into a region, from its first cell on.
-use Rattle.std.proofs.Common.{◌≡◌, ℕ, ◌+◌, ◌<◌, ◌≤◌, List, [], ◌∷◌, ◌++◌, map, length, get_or, take, drop, set, replicate, is_some, Some, None, Ok, Err, Option, unwrap_or, sym, refl, ap, ◌∙◌, append_assoc, append-nil, arith}
+use Rattle.std.proofs.Common.{◌≡◌, ℕ, ◌+◌, ◌<◌, ◌≤◌, List, [], ◌∷◌, ◌++◌, map, length, get_or, take, drop, set, replicate, is_some, Some, None, Ok, Err, Option, Result, unwrap_or, sym, refl, ap, ◌∙◌, append_assoc, append-nil, arith}
 use Rattle.std.proofs.lemmas.List.{length-set, length-map, length-append, length-take-le, length-drop, length-replicate, get_or-set_same, get_or_at, get_or_push, get_or-replicate, set-set, set_at, set-get_or, map_more, drop_more, drop_all, take_all, length_push, get_or-map, get_or_append_left}
 use Rattle.std.proofs.lemmas.List.FromFn.{fill_by_all}
-use Rattle.std.proofs.lemmas.Bool.{le-ltb}
 use Rattle.std.specs.List.{range_with_len}
 use Rattle.packed.specs.declared.fault.Fault.{Fault}
 use Rattle.packed.specs.declared.fault.Reason.{Reason}
 use Rattle.packed.specs.Forms.{either}
 use Rattle.cells.specs.Meaning.{Meaning, Sound, region_at, room_at, cell_at}
 use Rattle.cells.specs.Calls.{answer, open_refusal, put_refusal, get_refusal, byte_at, with_cell, with_region, after_open, after_put}
-use Rattle.cells.specs.Copying.{with_bytes, after_hold, copy_refusal, Copied}
+use Rattle.cells.specs.Copying.{with_bytes, after_hold, Copied}
 use Rattle.cells.proofs.Refusing.{put-accepted, get-accepted, ok-tells, ok-gives, err-tells}
 use Rattle.cells.proofs.Changing.{region-new, region-count, region-laws}
 
@@ -77,33 +76,44 @@ front-all m bytes i e =
     ap (λ (xs : List (List (Option ℕ))). record { total = m.total; grain = m.grain; free = m'.free; regions = xs }) all
 
 -- what an accepted open leaves
-pub opened-is : (m m' : Meaning) (n k : ℕ) → Ok k ≡ answer (open_refusal m n) (length m.regions) → m' ≡ after_open m n → (open_refusal m n ≡ None) × (k ≡ length m.regions) × (m' ≡ with_region m n)
+opened-is : (m m' : Meaning) (n k : ℕ) → Ok k ≡ answer (open_refusal m n) (length m.regions) → m' ≡ after_open m n → (open_refusal m n ≡ None) × (k ≡ length m.regions) × (m' ≡ with_region m n)
 opened-is m m' n k e q =
     let fine : open_refusal m n ≡ None = ok-tells (open_refusal m n) (length m.regions) k e in
     (fine, ok-gives (open_refusal m n) (length m.regions) k e, q ∙ ap (λ (o : Option Reason). either o (with_region m n) (λ _. m)) fine)
 
-pub opened-blank : (m m' : Meaning) (n k : ℕ) → k ≡ length m.regions → m' ≡ with_region m n → (k < length m'.regions) × (region_at m' k ≡ replicate n None)
+opened-blank : (m m' : Meaning) (n k : ℕ) → k ≡ length m.regions → m' ≡ with_region m n → (k < length m'.regions) × (region_at m' k ≡ replicate n None)
 opened-blank m m' n k e q =
     let c = region-count m n in
     rw (q, e) (omega arith, region-new m n)
 
--- a put in the loop is accepted, and puts one byte more
-pub step-accepted : (m now : Meaning) (r : ℕ) (bytes : List ℕ) (i : ℕ) → r < length m.regions → region_at m r ≡ replicate (length bytes) None → i < length bytes → now ≡ with_front m r bytes i → put_refusal now r i ≡ None
-step-accepted m now r bytes i known blank more e = ap (λ (x : Meaning). put_refusal x r i) e ∙ front-accepted m r bytes i known blank more
+-- while the bytes are put into the region that was opened for them
+module _ (m m' now : Meaning) (k : ℕ) (bytes : List ℕ) (i : ℕ) (e : Ok k ≡ answer (open_refusal m (length bytes)) (length m.regions)) (q : m' ≡ after_open m (length bytes)) (f : now ≡ with_front m' k bytes i) where
+  opened : (open_refusal m (length bytes) ≡ None) × (k ≡ length m.regions) × (m' ≡ with_region m (length bytes))
+  opened = opened-is m m' (length bytes) k e q
 
-pub step-more : (m now after : Meaning) (r : ℕ) (bytes : List ℕ) (i : ℕ) → r < length m.regions → region_at m r ≡ replicate (length bytes) None → i < length bytes → now ≡ with_front m r bytes i → after ≡ after_put now r i (get_or bytes i 0) → after ≡ with_front m r bytes (i + 1)
-step-more m now after r bytes i known blank more e q =
-    q ∙ ap (λ (x : Meaning). after_put x r i (get_or bytes i 0)) e
-    ∙ ap (λ (o : Option Reason). either o (with_cell (with_front m r bytes i) r i (get_or bytes i 0)) (λ _. with_front m r bytes i)) (front-accepted m r bytes i known blank more)
-    ∙ front-more m r bytes i known blank more
+  blank-at : (k < length m'.regions) × (region_at m' k ≡ replicate (length bytes) None)
+  blank-at = opened-blank m m' (length bytes) k opened.1 opened.2
 
--- when all are put
-pub held-is : (m m' now : Meaning) (k : ℕ) (bytes : List ℕ) (i : ℕ) → open_refusal m (length bytes) ≡ None → k ≡ length m.regions → m' ≡ with_region m (length bytes) → now ≡ with_front m' k bytes i → i ≡ length bytes → now ≡ after_hold m bytes
-held-is m m' now k bytes i fine e q n l =
-    n ∙ rw (q, e) (front-all m bytes i l) ∙ sym (ap (λ (o : Option Reason). either o (with_bytes m bytes) (λ _. m)) fine)
+  -- a put is accepted, and puts one byte more
+  step-accepted : i < length bytes → put_refusal now k i ≡ None
+  step-accepted more = ap (λ (x : Meaning). put_refusal x k i) f ∙ front-accepted m' k bytes i blank-at.0 blank-at.1 more
 
-pub refused-not : {X : Type 0} (o : Option Reason) (a : X) (f : Fault) → o ≡ None → Err f ≡ answer o a → ⊥
-refused-not o a f e q = let t = err-tells o a f q in let s = t.1 in let z : ◌≡◌ {A = ℕ} 0 1 = cc in omega arith
+  pub step-refused : (fault : Fault) → i < length bytes → ◌≡◌ {A = Result (Unit {0}) Fault} (Err fault) (answer (put_refusal now k i) tt) → ⊥
+  step-refused fault more t =
+      let w = step-accepted more in
+      let r = (err-tells (put_refusal now k i) tt fault t).1 in
+      cc
+
+  pub step-more : (after : Meaning) → i < length bytes → after ≡ after_put now k i (get_or bytes i 0) → after ≡ with_front m' k bytes (i + 1)
+  step-more after more t =
+      t ∙ ap (λ (x : Meaning). after_put x k i (get_or bytes i 0)) f
+      ∙ ap (λ (o : Option Reason). either o (with_cell (with_front m' k bytes i) k i (get_or bytes i 0)) (λ _. with_front m' k bytes i)) (front-accepted m' k bytes i blank-at.0 blank-at.1 more)
+      ∙ front-more m' k bytes i blank-at.0 blank-at.1 more
+
+  -- when all are put
+  pub held-is : i ≡ length bytes → now ≡ after_hold m bytes
+  held-is l =
+      f ∙ rw (opened.2, opened.1) (front-all m bytes i l) ∙ sym (ap (λ (o : Option Reason). either o (with_bytes m bytes) (λ _. m)) opened.0)
 
 -- bytes that are held can be got
 module _ (m : Meaning) (bytes : List ℕ) where
@@ -142,9 +152,6 @@ pub copied_is : (m m' : Meaning) (k : ℕ) (bytes : List ℕ) → open_refusal m
 copied_is m m' k bytes fine e q sound =
     let s : Sound (with_bytes m bytes) = rw q at sound in
     rw (q, e) (held-copied m bytes fine s)
-
-pub copy-refusal : (m : Meaning) (bytes back : List ℕ) → length bytes ≤ length back → open_refusal m (length bytes) ≡ copy_refusal m bytes back
-copy-refusal m bytes back h = rw (le-ltb (length back) (length bytes) h)
 
 pub copy_got : (m m' : Meaning) (k : ℕ) (bytes back got : List ℕ) → k ≡ length m.regions → m' ≡ with_bytes m bytes → length bytes ≤ length back →
     got ≡ map (byte_at m' k) (range_with_len 0 (length (take (length bytes) back))) → got ++ drop (length bytes) back ≡ bytes ++ drop (length bytes) back

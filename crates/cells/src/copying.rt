@@ -14,8 +14,8 @@ pub fn hold<S: Store>(store: &mut S, bytes: &[u8]) -> Result<usize, Fault>
     ensures keeps { S.Store.kept store.old store.new }
 {
     let number = store.open(bytes.len())?;
-    for i in 0..bytes.len() {
-        store.put(number, i, bytes[i])?;
+    for (i, &byte) in bytes.iter().enumerate() {
+        store.put(number, i, byte)?;
     }
     Ok(number)
 }
@@ -26,8 +26,8 @@ fn fetch<S: Store>(store: &S, region: usize, back: &mut [u8]) -> Result<(), Faul
     ensures value { result ≡ Ok tt }
     ensures after { back.new ≡ map (byte_at (S.Store.meaning store.now) region) (range_with_len 0 (length back.old)) }
 {
-    for i in 0..back.len() {
-        back[i] = store.get(region, i)?;
+    for (i, byte) in back.iter_mut().enumerate() {
+        *byte = store.get(region, i)?;
     }
     Ok(())
 }

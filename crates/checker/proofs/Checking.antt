@@ -1,5 +1,5 @@
 -- The whole check against what it accepts, and against the first fault.
-use Rattle.std.proofs.Common.{◌≡◌, ℕ, true, cond, List, is_ok, Ok, Err, Result, sym, refl, ap, ◌∙◌, arith}
+use Rattle.std.proofs.Common.{◌≡◌, ℕ, true, cond, List, is_ok, Ok, Err, Result, sym, refl, ap, ◌∙◌}
 use Rattle.packed.specs.declared.fault.Fault.{Fault}
 use Rattle.table.specs.declared.section.Layout.{Layout}
 use Rattle.table.specs.declared.table.Table.{Table}
@@ -24,7 +24,7 @@ pub check-refused : (bs : List ℕ) (f : Fault) → Err f ≡ told (table_of bs)
 check-refused bs f e = split (table_of bs) e
   where
     split : (r : Result Layout Fault) → Err f ≡ told r → Err f ≡ onward r (λ l. verdict_of (program_in bs l))
-    split (Ok l) e = absurd (let z : ◌≡◌ {A = ℕ} 0 1 = cc in omega arith)
+    split (Ok l) e = cc
     split (Err g) e = let same : f ≡ g = cc in ap Err same
 
 pub check-judged : (bs : List ℕ) (t : Table) (P : Program) (r : Result (Unit {0}) Fault) → bytes_of t ≡ bs → P ≡ program_in (bytes_of t) t.layout → r ≡ verdict_of P → r ≡ check_of bs
@@ -40,7 +40,7 @@ module _ (bs : List ℕ) (r : Result (Unit {0}) Fault) (is : r ≡ check_of bs) 
     where
       accepted : (s : Result Layout Fault) → table_of bs ≡ s → onward s (λ l. verdict_of (program_in bs l)) ≡ Ok tt → Accepted bs
       accepted (Ok l) t v = record { layout = l; formed = formed bs l t; typed = verdict-typed (program_in bs l) v }
-      accepted (Err f) t v = absurd (let z : ◌≡◌ {A = ℕ} 0 1 = cc in omega arith)
+      accepted (Err f) t v = cc
 
       granted : Accepted bs → check_of bs ≡ Ok tt
       granted a = ap (λ s. onward s (λ l. verdict_of (program_in bs l))) (formed-on bs a.layout a.formed) ∙ typed-verdict (program_in bs a.layout) a.typed
@@ -66,7 +66,7 @@ built-in-fine bs e = ap (λ b. is_ok (check_of b)) e
 
 ok-accepted : (r : Result (Unit {0}) Fault) → is_ok r ≡ true → r ≡ Ok tt
 ok-accepted (Ok tt) e = refl
-ok-accepted (Err f) e = absurd (let z : ◌≡◌ {A = ℕ} 0 1 = cc in omega arith)
+ok-accepted (Err f) e = cc
 
 pub fine-accepted : (bs : List ℕ) → is_ok (check_of bs) ≡ true → Accepted bs
 fine-accepted bs e = (exactly bs (check_of bs) refl).0 (ok-accepted (check_of bs) e)
@@ -77,4 +77,4 @@ read_held bs held old u e h = split (table_of bs) e h
   where
     split : (r : Result Layout Fault) → Ok u ≡ told r → held ≡ cond (is_ok r) bs old → held ≡ bs
     split (Ok l) e h = h
-    split (Err f) e h = absurd (let z : ◌≡◌ {A = ℕ} 0 1 = cc in omega arith)
+    split (Err f) e h = cc

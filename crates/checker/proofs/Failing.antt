@@ -3,13 +3,15 @@ use Rattle.std.proofs.Common.{◌≡◌, ℕ, zero, suc, ◌+◌, ◌<◌, ◌�
 use Rattle.std.specs.List.{slice_get}
 use Rattle.std.proofs.lemmas.Bool.Decides.{nat_tests}
 use Rattle.std.proofs.lemmas.Option.{slice_get_past}
+use Rattle.std.proofs.lemmas.Bool.{ltb-false, ltb-true, not-false}
 use Rattle.packed.specs.declared.fault.Fault.{Fault}
 use Rattle.packed.specs.declared.fault.Reason.{Reason}
 use Rattle.packed.specs.declared.fault.Reason.TheVariants as reason
 use Rattle.packed.specs.Forms.{either}
 use Rattle.table.specs.declared.row.Row.{Row}
 use Rattle.table.specs.declared.row.Row.TheVariants as row
-use Rattle.table.specs.Sections.{onward, found}
+use Rattle.packed.specs.Faults.{found}
+use Rattle.table.specs.Sections.{onward}
 use Rattle.checker.specs.declared.kind.Kind.TheVariants as kind
 use Rattle.checker.specs.declared.context.Context.{Context}
 use Rattle.checker.specs.declared.context.Location.{Location}
@@ -18,7 +20,7 @@ use Rattle.checker.specs.Conditions.{Program, branch_form}
 use Rattle.checker.specs.Rules.{Asked, Typed, Branch}
 use Rattle.checker.specs.Verdict.{Done, Arm, refused, asking, done_with, alike, asked, Reader, Follower, further, locating, binding, testing, branching, branch_at, home_of, following, choosing, row_with, term_of, follow_of}
 use Rattle.checker.specs.First.{Locates, Locates.start, Locates.past, Locates.after, Fails, Fails.own, Fails.missing, Fails.stray, Fails.in_region, Fails.in_located, Fails.unsettled, Fails.in_bound, Fails.bound_kind, Fails.bound_place, Fails.in_body, Fails.back_body, Fails.in_arm, Fails.in_other, Fails.back_other, Fails.arms_differ, Fails.in_branch, Fails.in_later, Fails.back_branch, FailsBranch, FailsBranch.no_branch, FailsBranch.branch_own, FailsBranch.unknown_form, FailsBranch.in_child, FailsBranch.value_stays, FailsLater, FailsLater.later_branch, FailsLater.later_differs, FailsLater.later_on, FailsLater.later_back}
-use Rattle.checker.proofs.Inversions.{ok-err, true-false, onward-err, test-err, either-err, cond-ok, cond-err, less-of, not-less-of, not-false, asked-ok, asked-err}
+use Rattle.checker.proofs.Inversions.{ok-err, true-false, onward-err, test-err, either-err, cond-ok, cond-err, asked-ok, asked-err}
 use Rattle.checker.proofs.Scopes.{kept, kept-branch}
 use Rattle.checker.proofs.Typing.{restored, alike-done, kind_at, apart, term-typed, branch-typed}
 
@@ -58,8 +60,8 @@ module _ (P : Program) where
       go : (z t : Bool) → eqb next 0 ≡ z → ltb b next ≡ t → cond z (Ok d) (cond t (follow next d.after first) (refused reason.RowOrder b)) ≡ Err e
           → ((b < next) × (follow next d.after first ≡ Err e)) ⊎ ((0 < next) × (next ≤ b) × (e ≡ found reason.RowOrder 3 b))
       go true t ez et q = absurd (ok-err q)
-      go false true ez et q = inl (less-of b next et, q)
-      go false false ez et q = inr (grind (arith, nat_tests), not-less-of b next et, cc)
+      go false true ez et q = inl (ltb-true b next et, q)
+      go false false ez et q = inr (grind (arith, nat_tests), ltb-false b next et, cc)
 
   -- a row that is a branch, or none
   pub branch-or-none : (o : Option Row)
@@ -86,12 +88,12 @@ module _ (P : Program) where
     further_err : (n m : ℕ) (c : Context) {e : Fault} → length P.rows ≤ n + 1 + fuel → further P read n m c ≡ Err e → ((n < m) × Fails P c m e) ⊎ ((m ≤ n) × (e ≡ found reason.RowOrder 3 n))
     further_err n m c {e} le h =
         elim (cond-err (ltb n m) (read m c) reason.RowOrder n h) [
-          | inl a ↦ inr (not-less-of n m a.0, a.1)
-          | inr a ↦ let lt = less-of n m a.0 in inl (lt, wrong m c e (omega arith) a.1)
+          | inl a ↦ inr (ltb-false n m a.0, a.1)
+          | inr a ↦ let lt = ltb-true n m a.0 in inl (lt, wrong m c e (omega arith) a.1)
         ]
 
     further_ok : (n m : ℕ) (c : Context) (d : Done) → further P read n m c ≡ Ok d → (n < m) × Typed P c m d.kind d.after
-    further_ok n m c d h = let a = cond-ok (ltb n m) (read m c) reason.RowOrder n h in (less-of n m a.0, right m c d a.1)
+    further_ok n m c d h = let a = cond-ok (ltb n m) (read m c) reason.RowOrder n h in (ltb-true n m a.0, right m c d a.1)
 
     -- Branches.
     branching-fails : (n : ℕ) (r : Option ℕ) (c : Context) (form x l m : ℕ) (e : Fault) → length P.rows ≤ n + 1 + fuel → slice_get P.rows n ≡ Some (row.Branch form x l m)

@@ -1,13 +1,12 @@
 -- What an answer says of its parts: which test held, which part was refused.
-use Rattle.std.proofs.Common.{◌≡◌, ℕ, zero, suc, ◌<◌, ◌≤◌, Bool, true, false, cond, not, ◌&&◌, eqb, ltb, ◌⊎◌, List, [], ◌∷◌, length, Some, None, Ok, Err, Option, Result, sym, refl, inl, inr, arith}
-use Rattle.std.specs.List.{slice_get}
-use Rattle.std.proofs.lemmas.Bool.Decides.{nat_tests}
+use Rattle.std.proofs.Common.{◌≡◌, ℕ, Bool, true, false, cond, ◌&&◌, ◌⊎◌, Some, None, Ok, Err, Option, Result, sym, refl, inl, inr}
 use Rattle.packed.specs.declared.fault.Fault.{Fault}
 use Rattle.packed.specs.declared.fault.Reason.{Reason}
 use Rattle.packed.specs.declared.fault.Reason.TheVariants as reason
 use Rattle.packed.specs.Forms.{either}
 use Rattle.table.specs.declared.row.Row.{Row}
-use Rattle.table.specs.Sections.{onward, found}
+use Rattle.packed.specs.Faults.{found}
+use Rattle.table.specs.Sections.{onward}
 use Rattle.checker.specs.declared.context.Context.{Context}
 use Rattle.checker.specs.Conditions.{Program, names, kinds, rules, places}
 use Rattle.checker.specs.Verdict.{refused, asking, asked}
@@ -16,16 +15,16 @@ use Rattle.checker.specs.First.{Breaks, scope_broken, kind_broken, frontier_brok
 
 -- Answers never both grant and refuse.
 pub ok-err : {A : Type 0} {x : A} {e : Fault} → Ok x ≡ Err e → ⊥
-ok-err h = let z : ◌≡◌ {A = ℕ} 0 1 = cc in omega arith
+ok-err h = cc
 
 pub err-ok : {A : Type 0} {x : A} {e : Fault} → Err e ≡ Ok x → ⊥
-err-ok h = let z : ◌≡◌ {A = ℕ} 0 1 = cc in omega arith
+err-ok h = cc
 
 pub true-false : true ≡ false → ⊥
-true-false h = let z : ◌≡◌ {A = ℕ} 0 1 = cc in omega arith
+true-false h = cc
 
 pub some-none : {A : Type 0} {x : A} → Some x ≡ None → ⊥
-some-none h = let z : ◌≡◌ {A = ℕ} 0 1 = cc in omega arith
+some-none h = cc
 
 -- One part after another.
 pub onward-ok : {A B : Type 0} (r : Result A Fault) (f : A → Result B Fault) {y : B} → onward r f ≡ Ok y → (x : A) × (r ≡ Ok x) × (f x ≡ Ok y)
@@ -39,19 +38,7 @@ onward-err (Err e) f h = inl (cc)
 pub ok-onward : {A B : Type 0} (r : Result A Fault) (f : A → Result B Fault) {x : A} → r ≡ Ok x → onward r f ≡ f x
 ok-onward r f e = rw e
 
--- Tests.
-pub asking-ok : (b : Bool) (why : Reason) (n : ℕ) → asking b why n ≡ Ok tt → b ≡ true
-asking-ok true why n h = refl
-asking-ok false why n h = absurd (err-ok h)
-
-pub asking-err : (b : Bool) (why : Reason) (n : ℕ) {e : Fault} → asking b why n ≡ Err e → (b ≡ false) × (e ≡ found why 3 n)
-asking-err true why n h = absurd (ok-err h)
-asking-err false why n h = (refl, cc)
-
-pub ok-asking : (b : Bool) (why : Reason) (n : ℕ) → b ≡ true → asking b why n ≡ Ok tt
-ok-asking b why n h = rw h
-
--- a test, then more
+-- A test, then more.
 pub test-ok : {B : Type 0} (b : Bool) (why : Reason) (n : ℕ) (f : Unit {0} → Result B Fault) {y : B} → onward (asking b why n) f ≡ Ok y → (b ≡ true) × (f tt ≡ Ok y)
 test-ok true why n f h = (refl, h)
 test-ok false why n f h = absurd (err-ok h)
@@ -78,45 +65,10 @@ pub cond-err : {B : Type 0} (b : Bool) (r : Result B Fault) (why : Reason) (n : 
 cond-err true r why n h = inr (refl, h)
 cond-err false r why n h = inl (refl, cc)
 
--- Truth values and numbers.
+-- Two that hold.
 pub and-true : (a b : Bool) → (a && b) ≡ true → (a ≡ true) × (b ≡ true)
 and-true true b h = (refl, h)
 and-true false b h = absurd (true-false (sym h))
-
-pub true-and : (a b : Bool) → a ≡ true → b ≡ true → (a && b) ≡ true
-true-and a b p q = rw (p, q)
-
-pub not-true : (b : Bool) → not b ≡ true → b ≡ false
-not-true true h = absurd (true-false (sym h))
-not-true false h = refl
-
-pub not-false : (b : Bool) → not b ≡ false → b ≡ true
-not-false true h = refl
-not-false false h = absurd (true-false h)
-
-pub true-not : (b : Bool) → b ≡ false → not b ≡ true
-true-not b h = rw h
-
-pub less-of : (a b : ℕ) → ltb a b ≡ true → a < b
-less-of a b h = grind (arith, nat_tests)
-
-pub of-less : (a b : ℕ) → a < b → ltb a b ≡ true
-of-less a b h = grind (arith, nat_tests)
-
-pub not-less-of : (a b : ℕ) → ltb a b ≡ false → b ≤ a
-not-less-of a b h = grind (arith, nat_tests)
-
-pub same_of : (a b : ℕ) → eqb a b ≡ true → a ≡ b
-same_of a b h = grind (arith, nat_tests)
-
-pub same_self : (a : ℕ) → eqb a a ≡ true
-same_self a = grind (arith, nat_tests)
-
--- a row that is there lies before the end
-pub row_within : {X : Type 0} (xs : List X) (n : ℕ) {x : X} → slice_get xs n ≡ Some x → n < length xs
-row_within [] n h = absurd (some-none (sym h))
-row_within (x ∷ xs) zero h = omega arith
-row_within (x ∷ xs) (suc n) h = let i = row_within xs n h in omega arith
 
 -- A row's own conditions.
 module _ (P : Program) where

@@ -3,6 +3,7 @@ use Rattle.std.proofs.Common.{◌≡◌, ℕ, zero, suc, ◌+◌, ◌<◌, ◌�
 use Rattle.std.specs.List.{slice_get}
 use Rattle.std.proofs.lemmas.Bool.{cases_eq}
 use Rattle.std.proofs.lemmas.Bool.Decides.{nat_tests}
+use Rattle.std.proofs.lemmas.Bool.{eqb-true}
 use Rattle.packed.specs.declared.constructor.Constructor.{Constructor}
 use Rattle.packed.specs.Forms.{either}
 use Rattle.table.specs.declared.function.Function.{Function}
@@ -24,7 +25,7 @@ use Rattle.checker.specs.First.{Locates}
 use Rattle.checker.specs.First.Locates.{start as at-start, past as at-past, after as at_after}
 use Rattle.checker.specs.Laws.{Operand, Operand.sum_left, Operand.sum_right, Operand.difference_left, Operand.difference_right, Operand.test_left, Operand.test_right, UsesVariable, UsesVariable.read, UsesVariable.operand, UsesVariable.apart, UsesVariable.part, UsesVariable.argument, UsesLocation, UsesLocation.behind_head, UsesLocation.behind_tree, UsesLocation.built, UsesLocation.bound, UsesLocation.given, UsesRegion, Holds, Leaves, Agree, Laws}
 use Rattle.checker.specs.Laws.UsesRegion.{opened as started}
-use Rattle.checker.proofs.Inversions.{true-false, some-none, and-true, same_of}
+use Rattle.checker.proofs.Inversions.{true-false, some-none, and-true}
 use Rattle.checker.proofs.Scopes.{kept}
 use Rattle.checker.proofs.Orderly.{one-row}
 use Rattle.checker.proofs.Typing.{typed-term, apart as taken-apart}
@@ -228,7 +229,7 @@ as-tree : (t : ℕ) (b : Bool) → (eqb t 254 || b) ≡ true → (t ≡ 254 → 
 as-tree t b h other = go (eqb t 254) refl h
   where
     go : (z : Bool) → eqb t 254 ≡ z → (z || b) ≡ true → b ≡ true
-    go true e q = absurd (other (same_of t 254 e))
+    go true e q = absurd (other (eqb-true t 254 e))
     go false e q = q
 
 module _ (P : Program) (c : Context) (n : ℕ) where

@@ -1,11 +1,9 @@
 pub mod Naming
-pub mod Sameness
 pub mod Alls
 pub mod Arguing
 pub mod Inversions
 pub mod Scopes
 pub mod Typing
-pub mod Covering
 pub mod Failing
 pub mod Refusing
 pub mod Firsts

@@ -1,53 +1,48 @@
--- Tables by name: what is read and written at a name.
-use Rattle.std.proofs.Common.{◌≡◌, ℕ, suc, ◌+◌, ◌-◌, ◌<◌, ◌≤◌, Bool, true, false, not, ◌&&◌, List, length, get_or, set, is_some, Some, None, Option, sym, refl, ap, ◌∙◌, arith}
-use Rattle.std.proofs.lemmas.Option.{slice_get-get_or, slice_get_past}
-use Rattle.packed.specs.Forms.{either}
-use Rattle.checker.specs.Contexts.{at, fresh, is_in, all_fresh, fill, clear}
+-- Names entered in a row: one more at a time, and in two goes.
+use Rattle.std.proofs.Common.{◌≡◌, ℕ, zero, suc, ◌+◌, ◌-◌, ◌<◌, List, get_or, set, Some, Option, sym, refl, ap, ◌∙◌, zero-add, arith}
+use Rattle.std.proofs.lemmas.Bool.Decides.{nat_tests}
+use Rattle.packed.specs.declared.constructor.Constructor.{Constructor}
+use Rattle.checker.specs.declared.kind.Kind.{Kind}
+use Rattle.checker.specs.declared.kind.Kind.TheVariants as kind
+use Rattle.checker.specs.Contexts.{entered_names, fill, part, parts}
 
-pub at-within : {X : Type 0} (xs : List (Option X)) (n : ℕ) (d : Option X) → n < length xs → get_or xs n d ≡ at xs n
-at-within xs n d h = ap (λ o. either o None (λ x. x)) (sym (slice_get-get_or xs n d h))
+-- a turn of a loop that enters names: the table after one entry
+pub names-turn : {X : Type 0} (xs ys whole : List X) (x : ℕ) (v : ℕ → X) (i n : ℕ) (k : X) → i < n → ys ≡ set xs (x + i) k → k ≡ v i → entered_names xs x v i (n - i) ≡ whole → entered_names ys x v (i + 1) (n - (i + 1)) ≡ whole
+names-turn xs ys whole x v i n k h e same inv =
+    let more : n - i ≡ suc (n - (i + 1)) = omega arith in
+    ap (λ zs. entered_names zs x v (i + 1) (n - (i + 1))) (e ∙ ap (set xs (x + i)) same) ∙ sym (ap (entered_names xs x v i) more) ∙ inv
 
-pub at-past : {X : Type 0} (xs : List (Option X)) (n : ℕ) → length xs ≤ n → None ≡ at xs n
-at-past xs n h = ap (λ o. either o None (λ x. x)) (sym (slice_get_past xs n h))
+-- the same names, which stand for the same
+names-same : {X : Type 0} (xs : List X) (x y : ℕ) (u v : ℕ → X) (i j n : ℕ) → x + i ≡ y + j → ((a b k : ℕ) → a ≡ i + k → b ≡ j + k → k < n → u a ≡ v b) → entered_names xs x u i n ≡ entered_names xs y v j n
+names-same xs x y u v i j zero e same = refl
+names-same xs x y u v i j (suc n) e same =
+    ap (λ a. entered_names (set xs a (u i)) x u (i + 1) n) e
+    ∙ ap (λ k. entered_names (set xs (y + j) k) x u (i + 1) n) (same i j 0 (omega arith) (omega arith) (omega arith))
+    ∙ names-same (set xs (y + j) (v j)) x y u v (i + 1) (j + 1) n (omega arith) (λ a b k p q h. same a b (k + 1) (omega arith) (omega arith) (omega arith))
 
-pub fresh-within : {X : Type 0} (xs : List (Option X)) (n : ℕ) (d : Option X) → n < length xs → either (get_or xs n d) true (λ x. false) ≡ fresh xs n
-fresh-within xs n d h = ap (λ o. either o false (λ o. either o true (λ x. false))) (sym (slice_get-get_or xs n d h))
+names-split : {X : Type 0} (xs : List X) (x : ℕ) (v : ℕ → X) (i n m all : ℕ) → all ≡ n + m → entered_names xs x v i all ≡ entered_names (entered_names xs x v i n) x v (i + n) m
+names-split xs x v i zero m all e =
+    let few : all ≡ m = omega arith in
+    let here : i ≡ i + zero = omega arith in
+    ap (entered_names xs x v i) few ∙ ap (λ a. entered_names xs x v a m) here
+names-split xs x v i (suc n) m all e =
+    let more : all ≡ suc (n + m) = omega arith in
+    let next : i + 1 + n ≡ i + suc n = omega arith in
+    ap (entered_names xs x v i) more
+    ∙ names-split (set xs (x + i) (v i)) x v (i + 1) n m (n + m) refl
+    ∙ ap (λ a. entered_names (entered_names xs x v i (suc n)) x v a m) next
 
-pub fresh-past : {X : Type 0} (xs : List (Option X)) (n : ℕ) → length xs ≤ n → false ≡ fresh xs n
-fresh-past xs n h = ap (λ o. either o false (λ o. either o true (λ x. false))) (sym (slice_get_past xs n h))
+-- n names in one go, and then m behind them
+pub names-twice : {X : Type 0} (xs ys zs : List X) (x : ℕ) (u v w : ℕ → X) (n m : ℕ) → ys ≡ entered_names xs x u 0 n → zs ≡ entered_names ys (x + n) v 0 m → ((i : ℕ) → i < n → u i ≡ w i) → ((a k : ℕ) → a ≡ n + k → k < m → v k ≡ w a) → zs ≡ entered_names xs x w 0 (n + m)
+names-twice xs ys zs x u v w n m e f first behind =
+    f
+    ∙ ap (λ ts. entered_names ts (x + n) v 0 m) (e ∙ names-same xs x x u w 0 0 n refl (λ a b k p q h. rw p (rw q (rw zero-add (first k h)))))
+    ∙ names-same (entered_names xs x w 0 n) (x + n) x v w 0 (0 + n) m (omega arith) (λ a b k p q h. let r : a ≡ k = omega arith in rw r (behind b k (omega arith) h))
+    ∙ sym (names-split xs x w 0 n m (n + m) refl)
 
-pub in_within : (xs : List Bool) (n : ℕ) (d : Bool) → n < length xs → get_or xs n d ≡ is_in xs n
-in_within xs n d h = ap (λ o. either o false (λ b. b)) (sym (slice_get-get_or xs n d h))
-
-pub in-past : (xs : List Bool) (n : ℕ) → length xs ≤ n → false ≡ is_in xs n
-in-past xs n h = ap (λ o. either o false (λ b. b)) (sym (slice_get_past xs n h))
-
-pub none_told : {X : Type 0} (o : Option X) (b : Bool) → is_some o ≡ not b → b ≡ either o true (λ x. false)
-none_told (Some x) true e = absurd (let z : ◌≡◌ {A = ℕ} 0 1 = cc in omega arith)
-none_told (Some x) false e = refl
-none_told None true e = refl
-none_told None false e = absurd (let z : ◌≡◌ {A = ℕ} 0 1 = cc in omega arith)
-
--- names in a row: one more, and no more
-pub fresh-more : {X : Type 0} (xs : List (Option X)) (x i n : ℕ) → i < n → all_fresh xs x i (n - i) ≡ (fresh xs (x + i) && all_fresh xs x (i + 1) (n - (i + 1)))
-fresh-more xs x i n h = let e : n - i ≡ suc (n - (i + 1)) = omega arith in ap (all_fresh xs x i) e
-
-pub fresh-done : {X : Type 0} (xs : List (Option X)) (x i n : ℕ) → n ≤ i → all_fresh xs x i (n - i) ≡ true
-fresh-done xs x i n h = let e : n - i ≡ 0 = omega arith in ap (all_fresh xs x i) e
-
-pub clear-more : {X : Type 0} (xs : List (Option X)) (x i n : ℕ) → i < n → clear xs x i (n - i) ≡ clear (set xs (x + i) None) x (i + 1) (n - (i + 1))
-clear-more xs x i n h = let e : n - i ≡ suc (n - (i + 1)) = omega arith in ap (clear xs x i) e
-
-pub clear-done : {X : Type 0} (xs : List (Option X)) (x i n : ℕ) → n ≤ i → clear xs x i (n - i) ≡ xs
-clear-done xs x i n h = let e : n - i ≡ 0 = omega arith in ap (clear xs x i) e
-
-pub fill_more : {X : Type 0} (xs : List (Option X)) (x : ℕ) (v : ℕ → X) (i n : ℕ) → i < n → fill xs x v i (n - i) ≡ fill (set xs (x + i) (Some (v i))) x v (i + 1) (n - (i + 1))
-fill_more xs x v i n h = let e : n - i ≡ suc (n - (i + 1)) = omega arith in ap (fill xs x v i) e
-
-pub fill_done : {X : Type 0} (xs : List (Option X)) (x : ℕ) (v : ℕ → X) (i n : ℕ) → n ≤ i → fill xs x v i (n - i) ≡ xs
-fill_done xs x v i n h = let e : n - i ≡ 0 = omega arith in ap (fill xs x v i) e
-
--- a turn of a loop that fills: the table after one entry
-pub fill-turn : {X : Type 0} (xs ys whole : List (Option X)) (x : ℕ) (v : ℕ → X) (i n : ℕ) (k : X) → i < n → ys ≡ set xs (x + i) (Some k) → k ≡ v i → fill xs x v i (n - i) ≡ whole → fill ys x v (i + 1) (n - (i + 1)) ≡ whole
-fill-turn xs ys whole x v i n k h e same inv =
-    ap (λ zs. fill zs x v (i + 1) (n - (i + 1))) (e ∙ ap (λ k. set xs (x + i) (Some k)) same) ∙ sym (fill_more xs x v i n h) ∙ inv
+-- the parts of a tree: its integers, and its subtrees behind them
+pub parts-entered : (f : Constructor) (l x : ℕ) (xs ys zs : List (Option Kind)) → ys ≡ entered_names xs x (λ i. Some kind.Integer) 0 f.fields.integers → zs ≡ entered_names ys (x + f.fields.integers) (λ j. Some (kind.Tree (get_or f.fields.types j 0) (l + j))) 0 f.fields.subtrees → zs ≡ fill xs x (part f l) 0 (parts f)
+parts-entered f l x xs ys zs e h =
+    names-twice xs ys zs x _ _ (λ i. Some (part f l i)) f.fields.integers f.fields.subtrees e h
+    (λ i p. grind (arith, nat_tests))
+    (λ a k p q. let r : a - f.fields.integers ≡ k = omega arith in rw r (grind (arith, nat_tests)))

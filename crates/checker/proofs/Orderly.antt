@@ -2,6 +2,7 @@
 use Rattle.std.proofs.Common.{◌≡◌, ℕ, zero, suc, ◌+◌, ◌<◌, ◌≤◌, ◌⊎◌, List, [], ◌∷◌, map, length, Some, None, Option, sym, refl, ap, ◌∙◌, subst, inl, inr, arith}
 use Rattle.std.specs.List.{slice_get}
 use Rattle.std.proofs.lemmas.Bool.{cases_eq}
+use Rattle.std.proofs.lemmas.Option.{slice_get_within}
 use Rattle.packed.specs.declared.fault.Fault.{Fault}
 use Rattle.packed.specs.declared.fault.Reason.TheVariants as reason
 use Rattle.packed.specs.Faults.{number_of}
@@ -10,7 +11,7 @@ use Rattle.table.specs.declared.row.Row.{Row}
 use Rattle.table.specs.declared.row.Row.TheVariants as row
 use Rattle.table.specs.declared.section.Layout.{Layout}
 use Rattle.table.specs.Formed.{Formed}
-use Rattle.table.specs.Sections.{found}
+use Rattle.packed.specs.Faults.{found}
 use Rattle.table.specs.Spans.{Spans, Branches, Bodies}
 use Rattle.table.specs.Spans.Spans.{variable, number, sum, difference, region, start, past, after, construct, bind, test, call, case}
 use Rattle.table.specs.Spans.Branches.{last, more}
@@ -26,7 +27,7 @@ use Rattle.checker.specs.First.{Breaks, Breaks.scope_broken, Breaks.kind_broken,
 use Rattle.checker.specs.First.Locates.{start as at-start, past as at-past, after as at_after}
 use Rattle.checker.specs.Checking.{program_in}
 use Rattle.checker.specs.Laws.{RuleNamed, RowNumber, RowNumber.of_let, RowNumber.of_test, RowNumber.of_branch}
-use Rattle.checker.proofs.Inversions.{some-none, row_within}
+use Rattle.checker.proofs.Inversions.{some-none}
 
 -- one place has one row
 pub one-row : (o : Option Row) (q r : Row) → o ≡ Some q → o ≡ Some r → q ≡ r
@@ -134,8 +135,8 @@ module _ (rows : List Row) where
   here-further s _ m i (of_branch {form} {x} {l} p) = absurd (hung s (row.Branch form x l m) i)
 
   branch-here-further : {n e : ℕ} → Branches rows n e → (r : Row) (m : ℕ) → slice_get rows n ≡ Some r → RowNumber r m → n < m
-  branch-here-further b _ m i (of_let {x} {t} {l}) = absurd (let s = stands b in let q = s.is in let z : ◌≡◌ {A = ℕ} 0 1 = cc in omega arith)
-  branch-here-further b _ m i (of_test {x} {y}) = absurd (let s = stands b in let q = s.is in let z : ◌≡◌ {A = ℕ} 0 1 = cc in omega arith)
+  branch-here-further b _ m i (of_let {x} {t} {l}) = let s = stands b in let q = s.is in cc
+  branch-here-further b _ m i (of_test {x} {y}) = let s = stands b in let q = s.is in cc
   branch-here-further b _ m i (of_branch {form} {x} {l} p) = branch-further form x l m b i p
 
   -- the row at which a part starts, or one behind it
@@ -182,7 +183,7 @@ module _ (rows : List Row) where
       branches-further (more {n} {m = j} h p s w) a b = at-or-behind n i a (branch-starts (more h p s w)) (λ d. in_two i j (λ c. spans-further s d c) (λ c. branches-further w c b))
 
     bodies-further : {n : ℕ} {firsts : List ℕ} → Bodies rows n firsts → n ≤ i → i < m
-    bodies-further (none h) a = absurd (let w = row_within rows i is in omega arith)
+    bodies-further (none h) a = absurd (let w = slice_get_within rows i _ is in omega arith)
     bodies-further (standing {e = e} s b) a = in_two i e (λ c. spans-further s a c) (λ c. bodies-further b c)
 
   -- a function's body
@@ -226,10 +227,10 @@ module _ (P : Program) where
   at-arms n h = record { layer = refl; low = omega arith; high = omega arith; place = h }
 
   breaks-fine : {c : Context} {n : ℕ} {r : Row} {f : Fault} → slice_get P.rows n ≡ Some r → Breaks P c n r f → Fine f
-  breaks-fine {n = n} i (scope_broken a) = at-scope n (row_within P.rows n i)
-  breaks-fine {n = n} i (kind_broken a b) = at-kind n (row_within P.rows n i)
-  breaks-fine {n = n} i (frontier_broken a b g) = at-rule n (row_within P.rows n i)
-  breaks-fine {n = n} i (place_broken a b g h) = at_place n (row_within P.rows n i)
+  breaks-fine {n = n} i (scope_broken a) = at-scope n (slice_get_within P.rows n _ i)
+  breaks-fine {n = n} i (kind_broken a b) = at-kind n (slice_get_within P.rows n _ i)
+  breaks-fine {n = n} i (frontier_broken a b g) = at-rule n (slice_get_within P.rows n _ i)
+  breaks-fine {n = n} i (place_broken a b g h) = at_place n (slice_get_within P.rows n _ i)
 
   located-child : {c : Context} {n e l : ℕ} {r : Row} {p : Location} → Locates c r l p → Spans P.rows n e → slice_get P.rows n ≡ Some r → Spans P.rows (n + 1) e
   located-child (at-start {l} {r}) s i = hung P.rows s (row.Start l r) i
@@ -240,11 +241,8 @@ module _ (P : Program) where
   typed-next : {c d : Context} {r : Option ℕ} {n m e : ℕ} {k : Kind} → Branch P c r n k d m → Branches P.rows n e → 0 < m → (n + 1 < m) × Branches P.rows m e
   typed-next {m = m} (branch {form = form} {x = x} {l = l} i a h t s) b p = branch-next P.rows b form x l m i p
 
-  typed-row : {c d : Context} {r : Option ℕ} {n m : ℕ} {k : Kind} → Branch P c r n k d m → n < length P.rows
-  typed-row {n = n} (branch i a h t s) = row_within P.rows n i
-
   no_row : {X : Type 0} {n e : ℕ} → Spans P.rows n e → slice_get P.rows n ≡ None → X
-  no_row {n = n} s i = absurd (let h = here P.rows s in let q = h.is in let z : ◌≡◌ {A = ℕ} 0 1 = cc in omega arith)
+  no_row {n = n} s i = let h = here P.rows s in let q = h.is in cc
 
   no_stray : {X : Type 0} {n e : ℕ} (form x l m : ℕ) → Spans P.rows n e → slice_get P.rows n ≡ Some (row.Branch form x l m) → X
   no_stray form x l m s i = absurd (hung P.rows s (row.Branch form x l m) i)
@@ -265,26 +263,26 @@ module _ (P : Program) where
     fails-fine (stray {form = form} {x = x} {l = l} {m = m} i a) s = no_stray form x l m s i
     fails-fine (in_region {r = r} {room = room} i a t) s = fails-fine t (hung P.rows s (row.Region r room) i)
     fails-fine (in_located i w a t) s = fails-fine t (located-child w s i)
-    fails-fine (unsettled {n = n} i w a t h) s = at-child n (row_within P.rows n i)
+    fails-fine (unsettled {n = n} i w a t h) s = at-child n (slice_get_within P.rows n _ i)
     fails-fine (in_bound {x = x} {t = t} {l = l} {m = m} i a u) s = fails-fine u (hung P.rows s (row.Let x t l m) i).0
-    fails-fine (bound_kind {n = n} i a t h) s = at-kind n (row_within P.rows n i)
-    fails-fine (bound_place {n = n} i a t h g) s = at_place n (row_within P.rows n i)
+    fails-fine (bound_kind {n = n} i a t h) s = at-kind n (slice_get_within P.rows n _ i)
+    fails-fine (bound_place {n = n} i a t h g) s = at_place n (slice_get_within P.rows n _ i)
     fails-fine (in_body {x = x} {t = t} {l = l} {m = m} i a u lt v) s = fails-fine v (hung P.rows s (row.Let x t l m) i).1
     fails-fine (back_body {x = x} {t = t} {l = l} {m = m} i a u le) s = no-back (let-further P.rows x t l m s i) le
     fails-fine (in_arm {x = x} {y = y} {m = m} i a u) s = fails-fine u (hung P.rows s (row.Test x y m) i).0
     fails-fine (in_other {x = x} {y = y} {m = m} i a u lt v) s = fails-fine v (hung P.rows s (row.Test x y m) i).1
     fails-fine (back_other {x = x} {y = y} {m = m} i a u le) s = no-back (test-further P.rows x y m s i) le
-    fails-fine (arms_differ {n = n} i a t lt u h) s = at-arms n (row_within P.rows n i)
+    fails-fine (arms_differ {n = n} i a t lt u h) s = at-arms n (slice_get_within P.rows n _ i)
     fails-fine (in_branch {x = x} i a h t) s = branch-fine t (hung P.rows s (row.Case x) i)
-    fails-fine (in_later {n = n} {x = x} i a h b lt t) s = later-fine t (row_within P.rows n i) (typed-next b (hung P.rows s (row.Case x) i) (omega arith)).1
+    fails-fine (in_later {n = n} {x = x} i a h b lt t) s = later-fine t (slice_get_within P.rows n _ i) (typed-next b (hung P.rows s (row.Case x) i) (omega arith)).1
     fails-fine (back_branch {x = x} i a h b p le) s = no-back (let z = (typed-next b (hung P.rows s (row.Case x) i) p).0 in omega arith) le
 
     branch-fine : {c : Context} {r : Option ℕ} {n e : ℕ} {f : Fault} → FailsBranch P c r n f → Branches P.rows n e → Fine f
     branch-fine (no_branch i) b = no_gap b i
     branch-fine (branch_own i h) b = breaks-fine i h
-    branch-fine (unknown_form {n = n} i a h) b = at-kind n (row_within P.rows n i)
+    branch-fine (unknown_form {n = n} i a h) b = at-kind n (slice_get_within P.rows n _ i)
     branch-fine (in_child i a h t) b = fails-fine t (branch-child b).1
-    branch-fine (value_stays {n = n} i a h t g) b = at-child n (row_within P.rows n i)
+    branch-fine (value_stays {n = n} i a h t g) b = at-child n (slice_get_within P.rows n _ i)
 
     later-fine : {c d : Context} {r : Option ℕ} {n b e : ℕ} {k : Kind} {f : Fault} → FailsLater P c r n k d b f → n < length P.rows → Branches P.rows b e → Fine f
     later-fine (later_branch t) h s = branch-fine t s
@@ -294,8 +292,8 @@ module _ (P : Program) where
 
   body-fine : {e : ℕ} {f : Function} {x : Fault} → FailsBody P f x → Spans P.rows f.first e → Fine x
   body-fine (inside t) s = fails-fine t s
-  body-fine {f = f} (wrong_kind t h) s = let w = here P.rows s in at-kind f.first (row_within P.rows f.first w.is)
-  body-fine {f = f} (wrong_place t h g) s = let w = here P.rows s in at_place f.first (row_within P.rows f.first w.is)
+  body-fine {f = f} (wrong_kind t h) s = let w = here P.rows s in at-kind f.first (slice_get_within P.rows f.first _ w.is)
+  body-fine {f = f} (wrong_place t h g) s = let w = here P.rows s in at_place f.first (slice_get_within P.rows f.first _ w.is)
 
 -- In a table, the fault of the typing check is one of the typing rules', never one of rows out of order.
 pub rule-named : (bs : List ℕ) (l : Layout) → Formed bs l → (f : Fault) → Broken (program_in bs l) f → RuleNamed bs l f

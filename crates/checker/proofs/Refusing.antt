@@ -1,8 +1,9 @@
 -- What fails a typing rule is refused: the check gives the first fault.
-use Rattle.std.proofs.Common.{◌≡◌, ℕ, zero, suc, ◌+◌, ◌<◌, ◌≤◌, Bool, true, false, not, ◌&&◌, eqb, ltb, List, [], ◌∷◌, length, Some, None, Ok, Err, Option, Result, sym, refl, ap, ◌∙◌, subst, inl, inr, arith}
+use Rattle.std.proofs.Common.{◌≡◌, ℕ, zero, suc, ◌+◌, ◌<◌, ◌≤◌, Bool, true, false, not, ◌&&◌, eqb, ltb, length, Some, None, Ok, Err, Option, Result, sym, refl, ap, ◌∙◌, subst, inl, inr, arith}
 use Rattle.std.specs.List.{slice_get}
 use Rattle.std.proofs.lemmas.Bool.Decides.{nat_tests}
-use Rattle.std.proofs.lemmas.Option.{slice_get_past}
+use Rattle.std.proofs.lemmas.Option.{slice_get_past, slice_get_within}
+use Rattle.std.proofs.lemmas.Bool.{lt-ltb}
 use Rattle.packed.specs.declared.constructor.Constructor.{Constructor}
 use Rattle.packed.specs.declared.fault.Fault.{Fault}
 use Rattle.packed.specs.declared.fault.Reason.{Reason}
@@ -10,22 +11,20 @@ use Rattle.packed.specs.declared.fault.Reason.TheVariants as reason
 use Rattle.packed.specs.Forms.{either}
 use Rattle.table.specs.declared.row.Row.{Row}
 use Rattle.table.specs.declared.row.Row.TheVariants as row
-use Rattle.table.specs.Sections.{onward, found}
+use Rattle.packed.specs.Faults.{found}
+use Rattle.table.specs.Sections.{onward}
 use Rattle.checker.specs.declared.kind.Kind.{Kind}
 use Rattle.checker.specs.declared.kind.Kind.TheVariants as kind
 use Rattle.checker.specs.declared.context.Context.{Context}
-use Rattle.checker.specs.declared.context.Progress.{Progress}
 use Rattle.checker.specs.declared.context.Location.{Location}
-use Rattle.checker.specs.declared.context.Frontier.{Frontier}
-use Rattle.checker.specs.declared.context.Frontier.TheVariants as frontier
 use Rattle.checker.specs.Contexts.{at, is_in, kind_of, same_kind, lies_within, lies_at, region_of, with_variable, opened, placed, parted, unparted}
 use Rattle.checker.specs.Conditions.{Program, branch_form}
 use Rattle.checker.specs.Rules.{Asked, Typed, Branch}
-use Rattle.checker.specs.Verdict.{Done, Arm, Answer, refused, asking, done_with, same_value, same_frontier, same_bit, same_list, alike, asked, Reader, Follower, further, locating, branching, branch_at, home_of, following, choosing, row_with, row_of, term_of, follow_of}
+use Rattle.checker.specs.Verdict.{Done, Arm, Answer, refused, asking, done_with, alike, asked, Reader, Follower, further, locating, branching, branch_at, home_of, following, choosing, row_with, row_of, term_of, follow_of}
 use Rattle.checker.specs.First.{Breaks, Breaks.scope_broken, Breaks.kind_broken, Breaks.frontier_broken, Breaks.place_broken, Locates, Locates.start, Locates.past, Locates.after, Fails, Fails.own, Fails.missing, Fails.stray, Fails.in_region, Fails.in_located, Fails.unsettled, Fails.in_bound, Fails.bound_kind, Fails.bound_place, Fails.in_body, Fails.back_body, Fails.in_arm, Fails.in_other, Fails.back_other, Fails.arms_differ, Fails.in_branch, Fails.in_later, Fails.back_branch, FailsBranch, FailsBranch.no_branch, FailsBranch.branch_own, FailsBranch.unknown_form, FailsBranch.in_child, FailsBranch.value_stays, FailsLater, FailsLater.later_branch, FailsLater.later_differs, FailsLater.later_on, FailsLater.later_back}
-use Rattle.checker.proofs.Inversions.{ok-onward, true-and, of-less, same_self, row_within, ok-asked}
+use Rattle.checker.proofs.Inversions.{ok-onward, ok-asked}
 use Rattle.checker.proofs.Scopes.{kept, kept-branch}
-use Rattle.checker.proofs.Typing.{restored, at-kind, typed-term, typed-branch}
+use Rattle.checker.proofs.Typing.{alike_self, restored, at-kind, typed-term, typed-branch}
 use Rattle.checker.proofs.Failing.{Scoped, branch-or-none}
 
 pub err-onward : {A B : Type 0} (r : Result A Fault) (f : A → Result B Fault) {e : Fault} → r ≡ Err e → onward r f ≡ Err e
@@ -43,28 +42,6 @@ breaks-of P c n r (scope_broken s) = rw s
 breaks-of P c n r (kind_broken s k) = rw (s, k)
 breaks-of P c n r (frontier_broken s k f) = rw (s, k, f)
 breaks-of P c n r (place_broken s k f p) = rw (s, k, f, p)
-
--- what ends the same ends alike
-value-self : (k : Kind) → same_value k k ≡ true
-value-self kind.Integer = refl
-value-self (kind.Tree t l) = true-and (eqb t t) (eqb l l) (same_self t) (same_self l)
-
-frontier-self : (f : Option Frontier) → same_frontier f f ≡ true
-frontier-self None = refl
-frontier-self (Some frontier.Nothing) = refl
-frontier-self (Some (frontier.At l)) = same_self l
-frontier-self (Some frontier.Shut) = refl
-
-bit-self : (b : Bool) → same_bit b b ≡ true
-bit-self true = refl
-bit-self false = refl
-
-list-self : {X : Type 0} (same : X → X → Bool) → ((x : X) → same x x ≡ true) → (xs : List X) → same_list same xs xs ≡ true
-list-self same each [] = refl
-list-self same each (x ∷ xs) = true-and (same x x) (same_list same xs xs) (each x) (list-self same each xs)
-
-alike_self : (k : Kind) (p : Progress) → alike k p k p ≡ true
-alike_self k p = true-and _ _ (value-self k) (true-and _ _ (list-self same_frontier frontier-self p.frontiers) (list-self same_bit bit-self p.unwritten))
 
 -- What the check answers at every fuel that suffices.
 pub record Grants (P : Program) (c : Context) (n : ℕ) (k : Kind) (d : Context) : Type 0 where
@@ -84,13 +61,13 @@ pub record RefusesLater (P : Program) (c : Context) (r : Option ℕ) (n : ℕ) (
 
 module _ (P : Program) where
   further-on : (read : Reader P) (n m : ℕ) (c : Context) → n < m → further P read n m c ≡ read m c
-  further-on read n m c h = rw (of-less n m h)
+  further-on read n m c h = rw (lt-ltb n m h)
 
   further-back : (read : Reader P) (n m : ℕ) (c : Context) → m ≤ n → further P read n m c ≡ refused reason.RowOrder n
   further-back read n m c h = let t : ltb n m ≡ false = grind (arith, nat_tests) in rw t
 
   following-on : (follow : Follower P) (b m : ℕ) (first d : Done) → b < m → following P follow b m first d ≡ follow m d.after first
-  following-on follow b m first d h = let z : eqb m 0 ≡ false = grind (arith, nat_tests) in rw (z, of-less b m h)
+  following-on follow b m first d h = let z : eqb m 0 ≡ false = grind (arith, nat_tests) in rw (z, lt-ltb b m h)
 
   following-back : (follow : Follower P) (b m : ℕ) (first d : Done) → 0 < m → m ≤ b → following P follow b m first d ≡ refused reason.RowOrder b
   following-back follow b m first d h le = let z : eqb m 0 ≡ false = grind (arith, nat_tests) in let t : ltb b m ≡ false = grind (arith, nat_tests) in rw (z, t)
@@ -106,7 +83,7 @@ module _ (P : Program) where
   at_row {c} {n} {r} {e} i h = record { refusal = go }
     where
       go : (fuel : ℕ) → length P.rows ≤ n + fuel → term_of P fuel n c ≡ Err e
-      go zero le = let lt = row_within P.rows n i in absurd (omega arith)
+      go zero le = let lt = slice_get_within P.rows n _ i in absurd (omega arith)
       go (suc fuel) le = subst (λ o. either o (refused reason.RowOrder n) (row_of P (term_of P fuel) (follow_of P fuel) n c) ≡ Err e) (sym i) (h fuel (omega arith))
 
   within-row : {c : Context} {n : ℕ} {r : Row} {e : Fault} → slice_get P.rows n ≡ Some r → Asked P c n r
@@ -202,7 +179,7 @@ module _ (P : Program) where
     refusal = λ fuel le.
         elim (branch-or-none P (slice_get P.rows n)) [
           | inl a ↦ a.1 (term_of P fuel) n r c
-          | inr a ↦ absurd (let s = ap branch_form a.4 in let z : ◌≡◌ {A = ℕ} 0 1 = cc in omega arith)
+          | inr a ↦ let s = ap branch_form a.4 in cc
         ];
   }
 

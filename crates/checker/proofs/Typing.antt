@@ -2,6 +2,9 @@
 use Rattle.std.proofs.Common.{◌≡◌, ℕ, zero, suc, ◌+◌, ◌<◌, ◌≤◌, Bool, true, false, cond, not, ◌&&◌, ◌||◌, eqb, ltb, List, [], ◌∷◌, length, Some, None, Ok, Option, Result, sym, refl, ap, ◌∙◌, subst, arith}
 use Rattle.std.specs.List.{slice_get}
 use Rattle.std.proofs.lemmas.Bool.Decides.{nat_tests}
+use Rattle.std.proofs.lemmas.Bool.{eq-eqb, eqb-true, lt-ltb, ltb-true, not-true}
+use Rattle.std.specs.Cmp.Derive.{both_true}
+use Rattle.std.proofs.lemmas.Option.{slice_get_within}
 use Rattle.packed.specs.declared.constructor.Constructor.{Constructor}
 use Rattle.packed.specs.declared.fault.Fault.{Fault}
 use Rattle.packed.specs.declared.fault.Reason.TheVariants as reason
@@ -22,7 +25,7 @@ use Rattle.checker.specs.Contexts.{at, is_in, kind_of, same_kind, lies_within, l
 use Rattle.checker.specs.Conditions.{Program, takes_apart}
 use Rattle.checker.specs.Verdict.{Done, Arm, Answer, refused, asking, done_with, same_value, same_frontier, same_bit, same_list, same_progress, alike, asked, Reader, further, settled, locating, binding, testing, branching, branch_at, home_of, Follower, following, choosing, row_with, row_of, term_of, follow_of, ended, body_of, bodies_of, verdict_of}
 use Rattle.checker.specs.Rules.{Asked, Settled, Typed, Arms, Branch, Body, WellTyped, variable, number, sum, difference, region, start, past, after, construct, bind, test, call, case, last, more, branch}
-use Rattle.checker.proofs.Inversions.{err-ok, true-false, some-none, onward-ok, test-ok, either-ok, cond-ok, and-true, true-and, not-true, less-of, of-less, same_of, same_self, row_within, asked-ok, ok-asked}
+use Rattle.checker.proofs.Inversions.{err-ok, true-false, some-none, onward-ok, test-ok, either-ok, cond-ok, and-true, asked-ok, ok-asked}
 use Rattle.checker.proofs.Scopes.{kept, kept-branch}
 
 -- Tests of sameness are true of the same only, and of the same always.
@@ -32,13 +35,13 @@ same-value kind.Integer (kind.Tree t l) h = absurd (true-false (sym h))
 same-value (kind.Tree s m) kind.Integer h = absurd (true-false (sym h))
 same-value (kind.Tree s m) (kind.Tree t l) h =
     let p = and-true (eqb s t) (eqb m l) h in
-    let a : s ≡ t = same_of s t p.0 in
-    let b : m ≡ l = same_of m l p.1 in
+    let a : s ≡ t = eqb-true s t p.0 in
+    let b : m ≡ l = eqb-true m l p.1 in
     cc
 
 value-self : (k : Kind) → same_value k k ≡ true
 value-self kind.Integer = refl
-value-self (kind.Tree t l) = true-and (eqb t t) (eqb l l) (same_self t) (same_self l)
+value-self (kind.Tree t l) = both_true (eq-eqb t t refl) (eq-eqb l l refl)
 
 same-frontier : (a b : Option Frontier) → same_frontier a b ≡ true → a ≡ b
 same-frontier None None h = refl
@@ -50,7 +53,7 @@ same-frontier (Some frontier.Nothing) (Some frontier.Nothing) h = refl
 same-frontier (Some frontier.Nothing) (Some (frontier.At l)) h = absurd (true-false (sym h))
 same-frontier (Some frontier.Nothing) (Some frontier.Shut) h = absurd (true-false (sym h))
 same-frontier (Some (frontier.At m)) (Some frontier.Nothing) h = absurd (true-false (sym h))
-same-frontier (Some (frontier.At m)) (Some (frontier.At l)) h = ap (λ (n : ℕ). Some (frontier.At n)) (same_of m l h)
+same-frontier (Some (frontier.At m)) (Some (frontier.At l)) h = ap (λ (n : ℕ). Some (frontier.At n)) (eqb-true m l h)
 same-frontier (Some (frontier.At m)) (Some frontier.Shut) h = absurd (true-false (sym h))
 same-frontier (Some frontier.Shut) (Some frontier.Nothing) h = absurd (true-false (sym h))
 same-frontier (Some frontier.Shut) (Some (frontier.At l)) h = absurd (true-false (sym h))
@@ -59,7 +62,7 @@ same-frontier (Some frontier.Shut) (Some frontier.Shut) h = refl
 frontier-self : (a : Option Frontier) → same_frontier a a ≡ true
 frontier-self None = refl
 frontier-self (Some frontier.Nothing) = refl
-frontier-self (Some (frontier.At m)) = same_self m
+frontier-self (Some (frontier.At m)) = eq-eqb m m refl
 frontier-self (Some frontier.Shut) = refl
 
 bit-same : (a b : Bool) → same_bit a b ≡ true → a ≡ b
@@ -82,7 +85,7 @@ same-list same f (x ∷ xs) (y ∷ ys) h =
 
 list-self : {X : Type 0} (same : X → X → Bool) → ((x : X) → same x x ≡ true) → (xs : List X) → same_list same xs xs ≡ true
 list-self same f [] = refl
-list-self same f (x ∷ xs) = true-and (same x x) (same_list same xs xs) (f x) (list-self same f xs)
+list-self same f (x ∷ xs) = both_true (f x) (list-self same f xs)
 
 same-progress : (p q : Progress) → same_progress p q ≡ true → p ≡ q
 same-progress p q h =
@@ -92,10 +95,10 @@ same-progress p q h =
     λ i. record { frontiers = a i; unwritten = b i }
 
 progress-self : (p : Progress) → same_progress p p ≡ true
-progress-self p = true-and _ _ (list-self same_frontier frontier-self p.frontiers) (list-self same_bit bit-self p.unwritten)
+progress-self p = both_true (list-self same_frontier frontier-self p.frontiers) (list-self same_bit bit-self p.unwritten)
 
-alike_self : (k : Kind) (p : Progress) → alike k p k p ≡ true
-alike_self k p = true-and _ _ (value-self k) (progress-self p)
+pub alike_self : (k : Kind) (p : Progress) → alike k p k p ≡ true
+alike_self k p = both_true (value-self k) (progress-self p)
 
 -- Contexts with the same in scope.
 abbrev Kept : Context → Context → Type 0
@@ -126,14 +129,14 @@ kind_at k t l p q = go k (eqb t 254) p q
     go kind.Integer true p q = refl
     go kind.Integer false p q = absurd (true-false (sym p))
     go (kind.Tree s m) true p q = absurd (true-false (sym p))
-    go (kind.Tree s m) false p q = let a : s ≡ t = same_of s t p in let b : m ≡ l = same_of m l q in cc
+    go (kind.Tree s m) false p q = let a : s ≡ t = eqb-true s t p in let b : m ≡ l = eqb-true m l q in cc
 
 pub at-kind : (t l : ℕ) → (same_kind (kind_of t l) (kind_of t l) ≡ true) × (lies_at (kind_of t l) l ≡ true)
 at-kind t l = go (eqb t 254)
   where
     go : (b : Bool) → (same_kind (cond b kind.Integer (kind.Tree t l)) (cond b kind.Integer (kind.Tree t l)) ≡ true) × (lies_at (cond b kind.Integer (kind.Tree t l)) l ≡ true)
     go true = (refl, refl)
-    go false = (same_self t, same_self l)
+    go false = (eq-eqb t t refl, eq-eqb l l refl)
 
 -- what a case takes apart is a tree
 pub apart : (P : Program) (n : ℕ) (o : Option Kind) → takes_apart P n o ≡ true → (t : ℕ) × (l : ℕ) × (o ≡ Some (kind.Tree t l))
@@ -145,7 +148,7 @@ apart P n (Some (kind.Tree t l)) h = (t, l, refl)
 frontier-at : (o : Option Frontier) → is_at 0 o ≡ true → o ≡ Some (frontier.At 0)
 frontier-at None h = absurd (true-false (sym h))
 frontier-at (Some frontier.Nothing) h = absurd (true-false (sym h))
-frontier-at (Some (frontier.At m)) h = ap (λ (n : ℕ). Some (frontier.At n)) (same_of m 0 h)
+frontier-at (Some (frontier.At m)) h = ap (λ (n : ℕ). Some (frontier.At n)) (eqb-true m 0 h)
 frontier-at (Some frontier.Shut) h = absurd (true-false (sym h))
 
 -- a body that gives a value of its function's kind, and ends as its function says
@@ -153,20 +156,20 @@ body-kind : (k : Kind) (t : ℕ) (at-end : Bool) → same_kind k (kind_of t 0) �
 body-kind k t at-end p q = go k (eqb t 254) refl p q
   where
     go : (k : Kind) (z : Bool) → eqb t 254 ≡ z → same_kind k (cond z kind.Integer (kind.Tree t 0)) ≡ true → (z || (lies_at k 0 && at-end)) ≡ true → (k ≡ cond z kind.Integer (kind.Tree t 0)) × ((t ≡ 254 → ⊥) → at-end ≡ true)
-    go kind.Integer true e p q = (refl, λ no. absurd (no (same_of t 254 e)))
+    go kind.Integer true e p q = (refl, λ no. absurd (no (eqb-true t 254 e)))
     go (kind.Tree s m) true e p q = absurd (true-false (sym p))
     go kind.Integer false e p q = absurd (true-false (sym p))
     go (kind.Tree s m) false e p q =
         let u = and-true (eqb m 0) at-end q in
-        let a : s ≡ t = same_of s t p in
-        let b : m ≡ 0 = same_of m 0 u.0 in
+        let a : s ≡ t = eqb-true s t p in
+        let b : m ≡ 0 = eqb-true m 0 u.0 in
         (cc, λ no. u.1)
 
 body_ended : (t : ℕ) (o : Option Frontier) → ((t ≡ 254 → ⊥) → o ≡ Some (frontier.At 0)) → (eqb t 254 || (lies_at (kind_of t 0) 0 && is_at 0 o)) ≡ true
 body_ended t o h = go (eqb t 254) refl
   where
     apart_from : eqb t 254 ≡ false → t ≡ 254 → ⊥
-    apart_from e q = true-false (sym (same_self 254) ∙ ap (λ n. eqb n 254) (sym q) ∙ e)
+    apart_from e q = true-false (sym (eq-eqb 254 254 refl) ∙ ap (λ n. eqb n 254) (sym q) ∙ e)
 
     go : (z : Bool) → eqb t 254 ≡ z → (z || (lies_at (cond z kind.Integer (kind.Tree t 0)) 0 && is_at 0 o)) ≡ true
     go true e = refl
@@ -200,7 +203,7 @@ module _ (P : Program) where
       let y = cond-ok (ltb n m) (read m (with_variable e.after x (Some e.kind))) reason.RowOrder n w.1 in
       let k = kind_at e.kind t l u.0 v.0 in
       typed-as d w.2
-      (bind q a (subst (λ j. Typed P c (n + 1) j e.after) k (right (n + 1) c e s.1)) (less-of n m y.0)
+      (bind q a (subst (λ j. Typed P c (n + 1) j e.after) k (right (n + 1) c e s.1)) (ltb-true n m y.0)
       (subst (λ j. Typed P (with_variable e.after x (Some j)) m w.0.kind w.0.after) k (right m (with_variable e.after x (Some e.kind)) w.0 y.1)))
 
   tested : (read : Reader P) → Right read → (n x y m : ℕ) (c : Context) (d : Done) → slice_get P.rows n ≡ Some (row.Test x y m) → Asked P c n (row.Test x y m)
@@ -215,7 +218,7 @@ module _ (P : Program) where
       let u : Typed P c m f.kind f.after = subst (λ b. Typed P b m f.kind f.after) (restored c e.after (kept t)) (right m (with_progress e.after c.progress) f z.1) in
       let v = test-ok (alike e.kind e.after.progress f.kind f.after.progress) reason.ArmsDiffer n _ w.2 in
       let g = alike-done c e f (kept t) (kept u) v.0 in
-      typed-as d v.1 (test q a (subst (λ (b : Done). Typed P c (n + 1) b.kind b.after) (sym g) t) (less-of n m z.0) u)
+      typed-as d v.1 (test q a (subst (λ (b : Done). Typed P c (n + 1) b.kind b.after) (sym g) t) (ltb-true n m z.0) u)
 
   -- Branches.
   branched : (read : Reader P) → Right read → (n : ℕ) (r : Option ℕ) (c : Context) (form x l m : ℕ) (a : Arm) → slice_get P.rows n ≡ Some (row.Branch form x l m)
@@ -262,11 +265,11 @@ module _ (P : Program) where
   followed follow c r b next first d right t h = go (eqb next 0) refl h
     where
       go : (z : Bool) → eqb next 0 ≡ z → cond z (Ok first) (cond (ltb b next) (follow next first.after first) (refused reason.RowOrder b)) ≡ Ok d → Arms P c r b first.kind first.after × (d ≡ first)
-      go true e g = (last (subst (λ m. Branch P c r b first.kind first.after m) (same_of next 0 e) t), cc)
+      go true e g = (last (subst (λ m. Branch P c r b first.kind first.after m) (eqb-true next 0 e) t), cc)
       go false e g =
           let p = cond-ok (ltb b next) (follow next first.after first) reason.RowOrder b g in
           let q = right next first.after d (kept-branch t) p.1 in
-          (more t (less-of b next p.0) q.0, q.1)
+          (more t (ltb-true b next p.0) q.0, q.1)
 
   follow-step : (read : Reader P) → Right read → (follow : Follower P) (n : ℕ) (c : Context) (r : Option ℕ) (first : Done) → Kept c first.after → RightFrom c r first follow
       → (b : ℕ) (e : Context) (d : Done) → Kept c e
@@ -359,7 +362,7 @@ module _ (P : Program) where
 
   step_in : {n : ℕ} {c : Context} {q : Row} {d : Done} → slice_get P.rows n ≡ Some q → Asked P c n q
       → ((fuel : ℕ) → length P.rows ≤ n + 1 + fuel → row_with P (term_of P fuel) (follow_of P fuel) n c q ≡ Ok d) → (fuel : ℕ) → length P.rows ≤ n + fuel → term_of P fuel n c ≡ Ok d
-  step_in {n} {c} {q} e a h zero le = absurd (let w = row_within P.rows n e in omega arith)
+  step_in {n} {c} {q} e a h zero le = absurd (let w = slice_get_within P.rows n _ e in omega arith)
   step_in {n} {c} {q} e a h (suc fuel) le = rw e (rw (ok-asked P c n q a) (h fuel (omega arith)))
 
   full-located : (n l : ℕ) (p : Location) (c d : Context) (k : Kind) → Full (placed c l p) (n + 1) k d → Settled l k d
@@ -370,12 +373,12 @@ module _ (P : Program) where
       → (fuel : ℕ) → length P.rows ≤ n + 1 + fuel → binding P (term_of P fuel) n x t l m c ≡ Ok (done_with k (with_variable e x None))
   full-bound n x t l m c d e k f lt g fuel le =
       let p = at-kind t l in
-      rw (f fuel le) (rw p.0 (rw p.1 (rw (of-less n m lt) (rw (g fuel (omega arith))))))
+      rw (f fuel le) (rw p.0 (rw p.1 (rw (lt-ltb n m lt) (rw (g fuel (omega arith))))))
 
   full-tested : (n m : ℕ) (c d : Context) (k : Kind) → Kept c d → Full c (n + 1) k d → n < m → Full c m k d
       → (fuel : ℕ) → length P.rows ≤ n + 1 + fuel → testing P (term_of P fuel) n m c ≡ Ok (done_with k d)
   full-tested n m c d k j f lt g fuel le =
-      rw (f fuel le) (rw (of-less n m lt) (rw (restored c d j) (rw (g fuel (omega arith)) (rw (alike_self k d.progress)))))
+      rw (f fuel le) (rw (lt-ltb n m lt) (rw (restored c d j) (rw (g fuel (omega arith)) (rw (alike_self k d.progress)))))
 
   full-branch : (n form x l m : ℕ) (r : Option ℕ) (c d : Context) (k : Kind) (f : Constructor) → slice_get P.rows n ≡ Some (row.Branch form x l m) → Asked P c n (row.Branch form x l m) → slice_get P.forms form ≡ Some f
       → Full (parted c r f x l) (n + 1) k d → lies_within k l f.fields.subtrees ≡ false → FullBranch c r n k (unparted d r f x l) m
@@ -397,7 +400,7 @@ module _ (P : Program) where
       behind : (fuel n : ℕ) → length P.rows ≤ b + 1 + fuel → following P (follow_of P fuel n c r) b m (done_with k d) (done_with k d) ≡ Ok (done_with k d)
       behind fuel n le =
           let z : eqb m 0 ≡ false = grind (arith, nat_tests) in
-          rw z (rw (of-less b m lt) (full-follow j t fuel n (omega arith)))
+          rw z (rw (lt-ltb b m lt) (full-follow j t fuel n (omega arith)))
 
   full-chosen : (c d : Context) (n x t l : ℕ) (k : Kind) → at c.variables x ≡ Some (kind.Tree t l) → FullArms c (region_of c l) (n + 1) k d
       → (fuel : ℕ) → length P.rows ≤ n + 1 + fuel → choosing P (term_of P fuel) (follow_of P fuel n) n (home_of P c (at c.variables x)) c ≡ Ok (done_with k d)
@@ -405,7 +408,7 @@ module _ (P : Program) where
       rw e (rw (f.here fuel (omega arith)) (f.behind fuel n (omega arith)))
 
   branch-within : {c d : Context} {r : Option ℕ} {n m : ℕ} {k : Kind} → Branch P c r n k d m → n < length P.rows
-  branch-within {n = n} (branch e a h t s) = row_within P.rows n e
+  branch-within {n = n} (branch e a h t s) = slice_get_within P.rows n _ e
 
   mutual
     pub typed-term : {c d : Context} {n : ℕ} {k : Kind} → Typed P c n k d → (fuel : ℕ) → length P.rows ≤ n + fuel → term_of P fuel n c ≡ Ok (done_with k d)

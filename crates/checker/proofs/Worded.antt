@@ -2,6 +2,8 @@
 use Rattle.std.proofs.Common.{◌≡◌, ℕ, zero, suc, ◌+◌, ◌<◌, ◌≤◌, Bool, true, false, cond, ◌&&◌, ◌||◌, eqb, List, [], ◌∷◌, get_or, Some, None, Option, sym, refl, ap, ◌∙◌, subst, inl, inr, arith}
 use Rattle.std.specs.List.{slice_get}
 use Rattle.std.proofs.lemmas.Bool.{cases_eq}
+use Rattle.std.proofs.lemmas.Bool.{eq-eqb, eqb-true}
+use Rattle.std.specs.Cmp.Derive.{both_true}
 use Rattle.packed.specs.declared.constructor.Constructor.{Constructor}
 use Rattle.packed.specs.Forms.{either}
 use Rattle.table.specs.declared.row.Row.{Row}
@@ -17,7 +19,7 @@ use Rattle.checker.specs.declared.context.Frontier.TheVariants as frontier
 use Rattle.checker.specs.Contexts.{at, used, fresh, is_in, all_fresh, kind_of, same_kind, is_nothing, is_at, frontier_at, parts}
 use Rattle.checker.specs.Conditions.{Program, has_kind, all_used, all_have, four_integers, is_tree, any_tree, same_rule, place_of, has_rule, ruled_place, chained, branch_form, branch_next, covers, takes_apart, as_tree, construct_names, construct_kinds, construct_places, call_names, call_kinds, call_places, names, kinds, rules, places}
 use Rattle.checker.specs.Asking.{Used, Free, In, Has, integer, tree, Chain, ended, longer, Covered, no_more, of_another, of_it, IntegerPart, AllUsed, AllFree, ConstructNamed, ConstructKinded, ConstructPlaced, CallNamed, CallKinded, CallPlaced, BranchNamed, Named, Kinded, Fronted, Placed, Worded}
-use Rattle.checker.proofs.Inversions.{true-false, some-none, and-true, true-and, same_of, same_self}
+use Rattle.checker.proofs.Inversions.{true-false, some-none, and-true}
 
 -- A truth value and what it says.
 record Means (b : Bool) (A : Type 0) : Type 0 where
@@ -28,7 +30,7 @@ nothing : Means true (Unit {0})
 nothing = record { to = λ h. tt; from = λ a. refl }
 
 both : {a b : Bool} {A B : Type 0} → Means a A → Means b B → Means (a && b) (A × B)
-both {a} {b} m n = record { to = λ h. let p = and-true a b h in (m.to p.0, n.to p.1); from = λ p. true-and a b (m.from p.0) (n.from p.1) }
+both {a} {b} m n = record { to = λ h. let p = and-true a b h in (m.to p.0, n.to p.1); from = λ p. both_true (m.from p.0) (n.from p.1) }
 
 reworded : {b : Bool} {A B : Type 0} → Means b A → (A → B) → (B → A) → Means b B
 reworded m f g = record { to = λ h. f (m.to h); from = λ x. m.from (g x) }
@@ -38,11 +40,11 @@ differs : (s t : ℕ) → (s ≡ t → ⊥) → eqb s t ≡ false
 differs s t h = go (eqb s t) refl
   where
     go : (b : Bool) → eqb s t ≡ b → eqb s t ≡ false
-    go true e = absurd (h (same_of s t e))
+    go true e = absurd (h (eqb-true s t e))
     go false e = e
 
 same_not : (s t : ℕ) → eqb s t ≡ false → s ≡ t → ⊥
-same_not s t h e = true-false (sym (same_self t) ∙ subst (λ m. eqb m t ≡ false) e h)
+same_not s t h e = true-false (sym (eq-eqb t t refl) ∙ subst (λ m. eqb m t ≡ false) e h)
 
 or_right : (a b : Bool) → a ≡ false → (a || b) ≡ true → b ≡ true
 or_right true b e h = absurd (true-false e)
@@ -81,7 +83,7 @@ is_free {X} xs x = go (slice_get xs x)
     go : (o : Option (Option X)) → Means (either o false (λ p. either p true (λ y. false))) (o ≡ Some None)
     go None = record { to = λ h. absurd (true-false (sym h)); from = λ p. absurd (some-none (sym p)) }
     go (Some None) = record { to = λ h. refl; from = λ p. refl }
-    go (Some (Some v)) = record { to = λ h. absurd (true-false (sym h)); from = λ p. absurd (let z : ◌≡◌ {A = ℕ} 0 1 = cc in omega arith) }
+    go (Some (Some v)) = record { to = λ h. absurd (true-false (sym h)); from = λ p. cc }
 
 is-in : (xs : List Bool) (l : ℕ) → Means (is_in xs l) (In xs l)
 is-in xs l = go (slice_get xs l)
@@ -89,7 +91,7 @@ is-in xs l = go (slice_get xs l)
     go : (o : Option Bool) → Means (either o false (λ b. b)) (o ≡ Some true)
     go None = record { to = λ h. absurd (true-false (sym h)); from = λ p. absurd (some-none (sym p)) }
     go (Some true) = record { to = λ h. refl; from = λ p. refl }
-    go (Some false) = record { to = λ h. absurd (true-false (sym h)); from = λ p. absurd (let z : ◌≡◌ {A = ℕ} 0 1 = cc in omega arith) }
+    go (Some false) = record { to = λ h. absurd (true-false (sym h)); from = λ p. cc }
 
 -- Loops: `all i n` asks a test of n numbers from i on.
 module _ (all : ℕ → ℕ → Bool) (test : ℕ → Bool) (A : ℕ → Type 0) (base : (i : ℕ) → all i 0 ≡ true) (step : (i n : ℕ) → all i (suc n) ≡ (test i && all (i + 1) n)) (means : (i : ℕ) → Means (test i) (A i)) where
@@ -104,7 +106,7 @@ module _ (all : ℕ → ℕ → Bool) (test : ℕ → Bool) (A : ℕ → Type 0)
 
   range-from : (i n : ℕ) → ((q : ℕ) → i ≤ q → q < i + n → A q) → all i n ≡ true
   range-from i zero g = base i
-  range-from i (suc n) g = step i n ∙ true-and (test i) (all (i + 1) n) ((means i).from (g i (omega arith) (omega arith))) (range-from (i + 1) n (λ q lo hi. g q (omega arith) (omega arith)))
+  range-from i (suc n) g = step i n ∙ both_true ((means i).from (g i (omega arith) (omega arith))) (range-from (i + 1) n (λ q lo hi. g q (omega arith) (omega arith)))
 
   range : (n : ℕ) → Means (all 0 n) ((q : ℕ) → q < n → A q)
   range n = record { to = λ h q lt. range-to 0 n h q (omega arith) (omega arith); from = λ g. range-from 0 n (λ q lo hi. g q (omega arith)) }
@@ -120,7 +122,7 @@ integer-kind : (t : ℕ) → same_kind kind.Integer (kind_of t 0) ≡ true → t
 integer-kind t h = go (eqb t 254) refl h
   where
     go : (b : Bool) → eqb t 254 ≡ b → same_kind kind.Integer (cond b kind.Integer (kind.Tree t 0)) ≡ true → t ≡ 254
-    go true e q = same_of t 254 e
+    go true e q = eqb-true t 254 e
     go false e q = absurd (true-false (sym q))
 
 tree-kind : (s l t : ℕ) → same_kind (kind.Tree s l) (kind_of t 0) ≡ true → (s ≡ t) × (t ≡ 254 → ⊥)
@@ -128,10 +130,10 @@ tree-kind s l t h = go (eqb t 254) refl h
   where
     go : (b : Bool) → eqb t 254 ≡ b → same_kind (kind.Tree s l) (cond b kind.Integer (kind.Tree t 0)) ≡ true → (s ≡ t) × (t ≡ 254 → ⊥)
     go true e q = absurd (true-false (sym q))
-    go false e q = (same_of s t q, same_not t 254 e)
+    go false e q = (eqb-true s t q, same_not t 254 e)
 
 kind-tree : (l t : ℕ) → (t ≡ 254 → ⊥) → same_kind (kind.Tree t l) (kind_of t 0) ≡ true
-kind-tree l t d = subst (λ b. same_kind (kind.Tree t l) (cond b kind.Integer (kind.Tree t 0)) ≡ true) (sym (differs t 254 d)) (same_self t)
+kind-tree l t d = subst (λ b. same_kind (kind.Tree t l) (cond b kind.Integer (kind.Tree t 0)) ≡ true) (sym (differs t 254 d)) (eq-eqb t t refl)
 
 has-to : (o : Option Kind) (t : ℕ) → has_kind o t ≡ true → Has o t
 has-to None t h = absurd (true-false (sym h))
@@ -148,7 +150,7 @@ has-kind o t = record { to = has-to o t; from = has-from o t }
 is-integer : (o : Option Kind) → Means (has_kind o 254) (o ≡ Some kind.Integer)
 is-integer None = record { to = λ h. absurd (true-false (sym h)); from = λ p. absurd (some-none (sym p)) }
 is-integer (Some kind.Integer) = record { to = λ h. refl; from = λ p. refl }
-is-integer (Some (kind.Tree t l)) = record { to = λ h. absurd (true-false (sym h)); from = λ p. absurd (let z : ◌≡◌ {A = ℕ} 0 1 = cc in omega arith) }
+is-integer (Some (kind.Tree t l)) = record { to = λ h. absurd (true-false (sym h)); from = λ p. cc }
 
 have-all : (c : Context) (vs : List ℕ) (i : ℕ) (ts : List ℕ) (n : ℕ) → Means (all_have c vs i ts 0 n) ((j : ℕ) → j < n → Has (at c.variables (get_or vs (i + j) 0)) (get_or ts j 0))
 have-all c vs i ts n = range (λ j m. all_have c vs i ts j m) (λ j. has_kind (at c.variables (get_or vs (i + j) 0)) (get_or ts j 0)) (λ j. Has (at c.variables (get_or vs (i + j) 0)) (get_or ts j 0)) (λ j. refl) (λ j m. refl) (λ j. has-kind (at c.variables (get_or vs (i + j) 0)) (get_or ts j 0)) n
@@ -183,17 +185,17 @@ two-integers c x y = both (is-integer (at c.variables x)) (is-integer (at c.vari
 is-nothing : (o : Option Frontier) → Means (is_nothing o) (o ≡ Some frontier.Nothing)
 is-nothing None = record { to = λ h. absurd (true-false (sym h)); from = λ p. absurd (some-none (sym p)) }
 is-nothing (Some frontier.Nothing) = record { to = λ h. refl; from = λ p. refl }
-is-nothing (Some (frontier.At l)) = record { to = λ h. absurd (true-false (sym h)); from = λ p. absurd (let z : ◌≡◌ {A = ℕ} 0 1 = cc in omega arith) }
-is-nothing (Some frontier.Shut) = record { to = λ h. absurd (true-false (sym h)); from = λ p. absurd (let z : ◌≡◌ {A = ℕ} 0 1 = cc in omega arith) }
+is-nothing (Some (frontier.At l)) = record { to = λ h. absurd (true-false (sym h)); from = λ p. cc }
+is-nothing (Some frontier.Shut) = record { to = λ h. absurd (true-false (sym h)); from = λ p. cc }
 
 at-to : (l : ℕ) (o : Option Frontier) → is_at l o ≡ true → o ≡ Some (frontier.At l)
 at-to l None h = absurd (true-false (sym h))
 at-to l (Some frontier.Nothing) h = absurd (true-false (sym h))
-at-to l (Some (frontier.At m)) h = ap (λ k. Some (frontier.At k)) (same_of m l h)
+at-to l (Some (frontier.At m)) h = ap (λ k. Some (frontier.At k)) (eqb-true m l h)
 at-to l (Some frontier.Shut) h = absurd (true-false (sym h))
 
 is-at : (l : ℕ) (o : Option Frontier) → Means (is_at l o) (o ≡ Some (frontier.At l))
-is-at l o = record { to = at-to l o; from = λ p. ap (is_at l) p ∙ same_self l }
+is-at l o = record { to = at-to l o; from = λ p. ap (is_at l) p ∙ eq-eqb l l refl }
 
 -- a variable in scope that is a tree at a location
 tree-to : (t m : ℕ) (o : Option Kind) → is_tree t m o ≡ true → o ≡ Some (kind.Tree t m)
@@ -201,12 +203,12 @@ tree-to t m None h = absurd (true-false (sym h))
 tree-to t m (Some kind.Integer) h = absurd (true-false (sym h))
 tree-to t m (Some (kind.Tree s l)) h =
     let p = and-true (eqb s t) (eqb l m) h in
-    let a = same_of s t p.0 in
-    let b = same_of l m p.1 in
+    let a = eqb-true s t p.0 in
+    let b = eqb-true l m p.1 in
     cc
 
 tree-from : (t m : ℕ) (o : Option Kind) → o ≡ Some (kind.Tree t m) → is_tree t m o ≡ true
-tree-from t m o e = ap (is_tree t m) e ∙ true-and (eqb t t) (eqb m m) (same_self t) (same_self m)
+tree-from t m o e = ap (is_tree t m) e ∙ both_true (eq-eqb t t refl) (eq-eqb m m refl)
 
 or-true : (a b : Bool) → b ≡ true → (a || b) ≡ true
 or-true true b h = refl
@@ -242,20 +244,20 @@ rule-to (rule.Past l j) rule.Free h = absurd (true-false (sym h))
 rule-to (rule.Past l j) rule.Start h = absurd (true-false (sym h))
 rule-to (rule.Past l j) (rule.Past m k) h =
     let p = and-true (eqb l m) (eqb j k) h in
-    let a = same_of l m p.0 in
-    let b = same_of j k p.1 in
+    let a = eqb-true l m p.0 in
+    let b = eqb-true j k p.1 in
     cc
 rule-to (rule.Past l j) (rule.After m) h = absurd (true-false (sym h))
 rule-to (rule.After l) rule.Free h = absurd (true-false (sym h))
 rule-to (rule.After l) rule.Start h = absurd (true-false (sym h))
 rule-to (rule.After l) (rule.Past m k) h = absurd (true-false (sym h))
-rule-to (rule.After l) (rule.After m) h = ap rule.After (same_of l m h)
+rule-to (rule.After l) (rule.After m) h = ap rule.After (eqb-true l m h)
 
 rule-self : (r : Rule) → same_rule r r ≡ true
 rule-self rule.Free = refl
 rule-self rule.Start = refl
-rule-self (rule.Past l j) = true-and (eqb l l) (eqb j j) (same_self l) (same_self j)
-rule-self (rule.After l) = same_self l
+rule-self (rule.Past l j) = both_true (eq-eqb l l refl) (eq-eqb j j refl)
+rule-self (rule.After l) = eq-eqb l l refl
 
 either-some : {A B : Type 0} (o : Option A) (f : A → Option B) (y : B) → either o None f ≡ Some y → (x : A) × (o ≡ Some x) × (f x ≡ Some y)
 either-some None f y h = absurd (some-none (sym h))
@@ -316,11 +318,11 @@ branch_to (Some (row.Branch form x0 l0 next)) i h = let e : form ≡ i = cc in (
 
 is-form : (o : Option ℕ) (i : ℕ) → Means (either o false (λ k. eqb k i)) (o ≡ Some i)
 is-form None i = record { to = λ h. absurd (true-false (sym h)); from = λ p. absurd (some-none (sym p)) }
-is-form (Some k) i = record { to = λ h. ap Some (same_of k i h); from = λ p. let e : k ≡ i = cc in subst (λ j. eqb k j ≡ true) e (same_self k) }
+is-form (Some k) i = record { to = λ h. ap Some (eqb-true k i h); from = λ p. let e : k ≡ i = cc in subst (λ j. eqb k j ≡ true) e (eq-eqb k k refl) }
 
 module _ (rows : List Row) (t : ℕ) where
   covered-to : (i : ℕ) (fs : List Constructor) (b : ℕ) → covers rows t i fs b ≡ true → Covered rows t i fs b
-  covered-to i [] b h = no_more (same_of b 0 h)
+  covered-to i [] b h = no_more (eqb-true b 0 h)
   covered-to i (f ∷ fs) b h = go (eqb f.of t) refl h (covered-to (i + 1) fs)
     where
       branched : f.of ≡ t → (y : Bool) → either (branch_form (slice_get rows b)) false (λ k. eqb k i) ≡ y → either (cond y (Some (branch_next (slice_get rows b))) None) false (covers rows t (i + 1) fs) ≡ true → ((m : ℕ) → covers rows t (i + 1) fs m ≡ true → Covered rows t (i + 1) fs m) → Covered rows t i (f ∷ fs) b
@@ -330,7 +332,7 @@ module _ (rows : List Row) (t : ℕ) where
       branched same false e q more = absurd (true-false (sym q))
 
       go : (y : Bool) → eqb f.of t ≡ y → either (cond y (cond (either (branch_form (slice_get rows b)) false (λ k. eqb k i)) (Some (branch_next (slice_get rows b))) None) (Some b)) false (covers rows t (i + 1) fs) ≡ true → ((m : ℕ) → covers rows t (i + 1) fs m ≡ true → Covered rows t (i + 1) fs m) → Covered rows t i (f ∷ fs) b
-      go true e q more = branched (same_of f.of t e) (either (branch_form (slice_get rows b)) false (λ k. eqb k i)) refl q more
+      go true e q more = branched (eqb-true f.of t e) (either (branch_form (slice_get rows b)) false (λ k. eqb k i)) refl q more
       go false e q more = of_another (same_not f.of t e) (more b q)
 
   covered-from : {i : ℕ} {fs : List Constructor} {b : ℕ} → Covered rows t i fs b → covers rows t i fs b ≡ true
@@ -338,14 +340,14 @@ module _ (rows : List Row) (t : ℕ) where
   covered-from (of_another {i} {b} {f} {fs} d more) =
       ap (λ y. either (cond y (cond (either (branch_form (slice_get rows b)) false (λ k. eqb k i)) (Some (branch_next (slice_get rows b))) None) (Some b)) false (covers rows t (i + 1) fs)) (differs f.of t d) ∙ covered-from more
   covered-from (of_it {i} {b} {x} {l} {m} {f} {fs} e is more) =
-      ap (λ y. either (cond y (cond (either (branch_form (slice_get rows b)) false (λ k. eqb k i)) (Some (branch_next (slice_get rows b))) None) (Some b)) false (covers rows t (i + 1) fs)) (subst (λ u. eqb f.of u ≡ true) e (same_self f.of))
+      ap (λ y. either (cond y (cond (either (branch_form (slice_get rows b)) false (λ k. eqb k i)) (Some (branch_next (slice_get rows b))) None) (Some b)) false (covers rows t (i + 1) fs)) (subst (λ u. eqb f.of u ≡ true) e (eq-eqb f.of f.of refl))
       ∙ ap (λ o. either (cond (either (branch_form o) false (λ k. eqb k i)) (Some (branch_next o)) None) false (covers rows t (i + 1) fs)) is
-      ∙ ap (λ y. either (cond y (Some m) None) false (covers rows t (i + 1) fs)) (same_self i)
+      ∙ ap (λ y. either (cond y (Some m) None) false (covers rows t (i + 1) fs)) (eq-eqb i i refl)
       ∙ covered-from more
 
 apart : (P : Program) (n : ℕ) (o : Option Kind) → Means (takes_apart P n o) ((t : ℕ) × (l : ℕ) × (o ≡ Some (kind.Tree t l)) × Covered P.rows t 0 P.forms (n + 1))
 apart P n None = record { to = λ h. absurd (true-false (sym h)); from = λ p. absurd (some-none (sym p.2)) }
-apart P n (Some kind.Integer) = record { to = λ h. absurd (true-false (sym h)); from = λ p. absurd (let e = p.2 in let z : ◌≡◌ {A = ℕ} 0 1 = cc in omega arith) }
+apart P n (Some kind.Integer) = record { to = λ h. absurd (true-false (sym h)); from = λ p. let e = p.2 in cc }
 apart P n (Some (kind.Tree t l)) = record {
   to = λ h. (t, l, refl, covered-to P.rows t 0 P.forms (n + 1) h);
   from = λ p. let e = p.2 in let same : p.0 ≡ t = cc in subst (λ s. covers P.rows s 0 P.forms (n + 1) ≡ true) same (covered-from P.rows p.0 p.3);

@@ -30,18 +30,20 @@ fresh xs n = either (slice_get xs n) false (λ o. either o true (λ x. false))
 abbrev pub is_in : List Bool → ℕ → Bool
 is_in names n = either (slice_get names n) false (λ b. b)
 
--- the same of names in a row: n of them from name x + i on, where the one numbered i stands for v i
+-- the same of names in a row: n of them from name x + i on, where the one numbered i stands for v i, or for nothing
 abbrev pub all_fresh : {X : Type 0} → List (Option X) → ℕ → ℕ → ℕ → Bool
 all_fresh xs x i zero = true
 all_fresh xs x i (suc n) = fresh xs (x + i) && all_fresh xs x (i + 1) n
 
+abbrev pub entered_names : {X : Type 0} → List X → ℕ → (ℕ → X) → ℕ → ℕ → List X
+entered_names xs x v i zero = xs
+entered_names xs x v i (suc n) = entered_names (slice_set xs (x + i) (v i)) x v (i + 1) n
+
 abbrev pub fill : {X : Type 0} → List (Option X) → ℕ → (ℕ → X) → ℕ → ℕ → List (Option X)
-fill xs x v i zero = xs
-fill xs x v i (suc n) = fill (slice_set xs (x + i) (Some (v i))) x v (i + 1) n
+fill xs x v = entered_names xs x (λ i. Some (v i))
 
 abbrev pub clear : {X : Type 0} → List (Option X) → ℕ → ℕ → ℕ → List (Option X)
-clear xs x i zero = xs
-clear xs x i (suc n) = clear (slice_set xs (x + i) None) x (i + 1) n
+clear xs x = entered_names xs x (λ i. None)
 
 -- Kinds.
 

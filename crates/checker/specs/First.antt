@@ -7,7 +7,7 @@ use Rattle.packed.specs.declared.fault.Reason.TheVariants as reason
 use Rattle.table.specs.declared.function.Function.{Function}
 use Rattle.table.specs.declared.row.Row.{Row}
 use Rattle.table.specs.declared.row.Row.TheVariants as row
-use Rattle.table.specs.Sections.{found}
+use Rattle.packed.specs.Faults.{found}
 use Rattle.checker.specs.declared.kind.Kind.{Kind}
 use Rattle.checker.specs.declared.kind.Kind.TheVariants as kind
 use Rattle.checker.specs.declared.context.Context.{Context}

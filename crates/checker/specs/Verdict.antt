@@ -8,7 +8,8 @@ use Rattle.packed.specs.Forms.{either}
 use Rattle.table.specs.declared.function.Function.{Function}
 use Rattle.table.specs.declared.row.Row.{Row}
 use Rattle.table.specs.declared.row.Row.TheVariants as row
-use Rattle.table.specs.Sections.{onward, found}
+use Rattle.packed.specs.Faults.{found, given}
+use Rattle.table.specs.Sections.{onward}
 use Rattle.checker.specs.declared.kind.Kind.{Kind}
 use Rattle.checker.specs.declared.kind.Kind.TheVariants as kind
 use Rattle.checker.specs.declared.context.Context.{Context}
@@ -18,7 +19,7 @@ use Rattle.checker.specs.declared.context.Rule.TheVariants as rule
 use Rattle.checker.specs.declared.context.Frontier.{Frontier}
 use Rattle.checker.specs.declared.context.Frontier.TheVariants as frontier
 use Rattle.checker.specs.Contexts.{at, is_in, kind_of, same_kind, lies_within, lies_at, is_at, region_of, frontier_in, with_variable, with_progress, opened, closed, placed, written, left, parted, unparted, begun}
-use Rattle.checker.specs.Conditions.{Program, names, kinds, rules, places}
+use Rattle.checker.specs.Conditions.{Program, names, kinds, rules, places, construct_names, construct_kinds, construct_places, call_names, call_kinds, call_places}
 
 -- what a row gives, and the context behind it
 pub record Done : Type 0 where
@@ -38,7 +39,7 @@ refused why n = Err (found why 3 n)
 
 -- nothing where a condition holds, or else a fault at row n
 abbrev pub asking : Bool → Reason → ℕ → Result (Unit {0}) Fault
-asking b why n = cond b (Ok tt) (refused why n)
+asking b why n = given b why 3 n
 
 abbrev pub done_with : Kind → Context → Done
 done_with k c = record { kind = k; after = c }
@@ -190,6 +191,17 @@ module _ (P : Program) where
   -- its own conditions, then its children
   abbrev pub row_of : Reader → (ℕ → Context → Option ℕ → Follower) → ℕ → Context → Row → Answer
   row_of read follow n c r = onward (asked c n r) (λ _. row_with read follow n c r)
+
+  -- a construct and a call, with their variables in a list
+  abbrev pub constructing : ℕ → ℕ → ℕ → List ℕ → Context → Answer
+  constructing n form l vs c =
+      onward (by_number n (construct_names P c form l vs) (construct_kinds P c form vs) true (construct_places P c form l vs)) (λ _.
+      either (slice_get P.forms form) (refused reason.Kind n) (λ f. Ok (done_with (kind.Tree f.of l) (written c l))))
+
+  abbrev pub calling : ℕ → ℕ → ℕ → List ℕ → Context → Answer
+  calling n g l vs c =
+      onward (by_number n (call_names P c g l vs) (call_kinds P c g vs) true (call_places P c g l)) (λ _.
+      either (slice_get P.functions g) (refused reason.Kind n) (λ f. Ok (done_with (kind_of f.result l) (cond (f.result == 254) c (written c l)))))
 
   -- The row at n and what hangs on it, and the later branches of the case at row n in the context c of the case; `fuel`
   -- bounds how deep this goes.

@@ -5,7 +5,7 @@ use Rattle.packed.specs.Worked.{forms}
 use Rattle.table.specs.declared.function.Function.{Function}
 use Rattle.table.specs.declared.row.Row.{Row}
 use Rattle.table.specs.declared.row.Row.TheVariants as row
-use Rattle.table.specs.Sections.{found}
+use Rattle.packed.specs.Faults.{found}
 use Rattle.checker.specs.Conditions.{Program}
 use Rattle.checker.specs.Verdict.{verdict_of}
 

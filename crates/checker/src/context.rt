@@ -2,12 +2,12 @@
 mod ask;
 mod change;
 pub mod compare;
-mod parts;
+pub mod parts;
 
 use crate::kind::Kind;
 
 // How a location was got from another one. Those of parameters, results and branches have no rule.
-#[derive(Clone, Copy)]
+#[derive(Clone, Copy, PartialEq, Eq, Debug)]
 pub enum Rule {
     Free,
     Start,
@@ -16,14 +16,14 @@ pub enum Rule {
 }
 
 // A location: the region that it lies in, if that has a name, and its rule.
-#[derive(Clone, Copy)]
+#[derive(Clone, Copy, PartialEq, Eq, Debug)]
 pub struct Location {
     pub region: Option<u8>,
     pub rule: Rule,
 }
 
 // How far a region is written: not at all, up to a location, or no more to be written.
-#[derive(Clone, Copy)]
+#[derive(Clone, Copy, PartialEq, Eq, Debug)]
 pub enum Frontier {
     Nothing,
     At { l: u16 },
@@ -37,14 +37,15 @@ pub const LOCATIONS: usize = 32;
 pub const REGIONS: usize = 16;
 
 // How far writing has come: the frontier of each region in scope, and the locations that are not written yet.
-#[derive(Clone, Copy)]
+#[derive(Clone, Copy, PartialEq, Eq, Debug)]
 pub struct Progress {
     pub frontiers: [Option<Frontier>; REGIONS],
     pub unwritten: [bool; LOCATIONS],
 }
 
-// The kind of each variable in scope, each location in scope, and how far writing has come.
-#[derive(Clone, Copy)]
+// The kind of each variable in scope, each location in scope, and how far writing has come. (Arrays by name, since the check
+// takes no memory beyond its stack.)
+#[derive(Clone, Copy, PartialEq, Eq, Debug)]
 pub struct Context {
     pub variables: [Option<Kind>; VARIABLES],
     pub locations: [Option<Location>; LOCATIONS],

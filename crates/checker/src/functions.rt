@@ -1,5 +1,5 @@
 // Functions: the context that a body starts in, and what it has to end with.
-ghost use Rattle.std.specs.Prelude.{◌≡◌, eqb, if◌then◌else◌, Some, slice_index};
+ghost use Rattle.std.specs.Prelude.{◌≡◌, eqb, if◌then◌else◌, Some};
 ghost use Rattle.checker.specs.declared.context.Rule.TheVariants as rule;
 ghost use Rattle.checker.specs.Contexts.{blank, parameter, placed, begun};
 ghost use Rattle.checker.specs.Described.{program_of};
@@ -30,7 +30,7 @@ fn empty() -> Context
 
 // Where a function's tree result goes, if it gives a tree.
 fn with_result(res: u8) -> Context
-    ensures value { result ≡ (if eqb res 254 then blank else placed blank 0 (record { region = Some 0; rule = rule.Free })) }
+    ensures value { result ≡ (if eqb res INTEGER then blank else placed blank 0 (record { region = Some 0; rule = rule.Free })) }
 {
     let mut cx = empty();
     if res != INTEGER {
@@ -60,26 +60,21 @@ impl Context {
     }
 }
 
-// The kind at a place, 0 past the last.
-fn kind_at(function: &Function, j: u8) -> u8
-    ensures value { result ≡ slice_index function.now.kinds j }
-{
-    number_at(&function.kinds, usize::from(j))
-}
-
-// The context of a function's body.
+// The context of a function's body. (By number: a parameter past the kinds is of type 0, as a table says nowhere here that
+// there are at most four.)
 fn begin(function: &Function) -> Context
     ensures value { result ≡ begun function.now }
 {
     let mut cx = with_result(function.result);
     for j in 0..function.parameters {
-        cx.take(j, kind_at(function, j));
+        cx.take(j, number_at(&function.kinds, usize::from(j)));
     }
     cx
 }
 
 impl<'a> Descent<'a> {
-    // Whether a body that gave this ended as its function says.
+    // Whether a body that gave this ended as its function says. (A method, as `ended` is of a program: promised of each
+    // program in a plain function, `body` was not proved.)
     fn is_ended(&self, function: &Function, kind: Kind, cx: &Context) -> bool
         ensures value { result ≡ ended (program_of self.now) function.now (done_with kind cx.now) }
     {
@@ -93,23 +88,16 @@ impl<'a> Descent<'a> {
         let first = usize::from(function.first);
         let mut cx = begin(function);
         let kind = self.term(first, &mut cx)?;
-        ask(
-            kind.is_same(Kind::of(function.result, 0)),
-            Reason::Kind,
-            first,
-        )?;
-        ask(self.is_ended(function, kind, &cx), Reason::Unwritten, first)?;
-        Ok(())
+        ask(kind.is_of(function.result), Reason::Kind, first)?;
+        ask(self.is_ended(function, kind, &cx), Reason::Unwritten, first)
     }
 
-    // All functions, in order.
+    // All functions, in order. (By number: functions are read where they lie, and an iterator of our own for one loop is no
+    // plainer.)
     pub fn bodies(&self) -> Result<(), Fault>
         ensures value { result ≡ verdict_of (program_of self.now) }
     {
-        for i in 0..self.functions.len() {
-            let Some(function) = self.functions.get(i) else {
-                return Ok(());
-            };
+        for function in (0..self.functions.len()).filter_map(|i| self.functions.get(i)) {
             self.body(&function)?;
         }
         Ok(())

@@ -5,7 +5,7 @@ mod compare;
 pub const INTEGER: u8 = 254;
 
 // An integer, or a tree of type `of` that lies at location `at`.
-#[derive(Clone, Copy)]
+#[derive(Clone, Copy, PartialEq, Eq, Debug)]
 pub enum Kind {
     Integer,
     Tree { of: u8, at: u16 },

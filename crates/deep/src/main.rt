@@ -23,7 +23,7 @@ const FIELDS: [Fields; 3] = [
     Fields {
         integers: 0,
         subtrees: 0,
-        types: [NO_TYPE, NO_TYPE, NO_TYPE, NO_TYPE],
+        types: [NO_TYPE; 4],
     },
     Fields {
         integers: 0,
@@ -40,17 +40,12 @@ const FIELDS: [Fields; 3] = [
 // `count` times one head, and leaves behind them.
 fn heads(heap: Global, head: u8, count: usize, leaves: usize) -> Result<Vec<u8>, AllocError> {
     let mut bytes = vec![in heap; head; count]?;
-    for _ in 0..leaves {
-        bytes.push(LEAF)?;
-    }
+    bytes.resize(count.saturating_add(leaves), LEAF)?;
     Ok(bytes)
 }
 
 fn taken(answer: Result<usize, Fault>) -> anyhow::Result<usize> {
-    match answer {
-        Ok(count) => Ok(count),
-        Err(_) => Err(anyhow!("a tree was refused")),
-    }
+    answer.map_err(|_| anyhow!("a tree was refused"))
 }
 
 // Whether a tree that is unpacked and packed again is the same.
@@ -69,9 +64,7 @@ fn comes_back(heap: Global, shapes: &Shapes, bytes: &[u8]) -> anyhow::Result<boo
 }
 
 fn main(rt: HostRuntime) -> anyhow::Result<()> {
-    let Ok(shapes) = Shapes::new(&SIZES, &FIELDS) else {
-        return Err(anyhow!("the shapes break a limit"));
-    };
+    let shapes = Shapes::new(&SIZES, &FIELDS).map_err(|_| anyhow!("the shapes break a limit"))?;
     let chain = heads(rt.alloc(), WRAP, HEADS - 1, 1)?;
     let chain_comes_back = comes_back(rt.alloc(), &shapes, &chain)?;
     println!(rt; "each head inside the one before, 32768 bytes: {chain_comes_back}")?;

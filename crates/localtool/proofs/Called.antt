@@ -3,8 +3,7 @@ use Rattle.std.proofs.Common.{◌≡◌, ℕ, ◌+◌, ◌<◌, ◌≤◌, List,
 use Rattle.std.proofs.lemmas.List.{append_assoc, append-nil, at_drop_more, at_drop_all}
 use Rattle.cells.specs.Meaning.{Meaning}
 use Rattle.words.specs.declared.call.Call.{Call}
-use Rattle.localtool.specs.declared.call_answer.CallAnswer.{CallAnswer}
-use Rattle.localtool.specs.StoreCalls.{answer_to, after_call, answers_from}
+use Rattle.localtool.specs.StoreCalls.{CallAnswer, answer_to, after_call, answers_from}
 
 -- a call made: its answer put behind the others
 pub call-more : (v w : List CallAnswer) (m m' : Meaning) (cs : List Call) (i : ℕ) (d : Call) (a : CallAnswer) (whole : List CallAnswer) → i < length cs → a ≡ answer_to m (get_or cs i d) → m' ≡ after_call m (get_or cs i d) → w ≡ v ++ a ∷ [] → v ++ answers_from m (drop i cs) ≡ whole → w ++ answers_from m' (drop (i + 1) cs) ≡ whole

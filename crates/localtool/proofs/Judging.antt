@@ -1,5 +1,5 @@
 -- From a table that was checked to the types that a command names.
-use Rattle.std.proofs.Common.{◌≡◌, ℕ, cond, List, is_ok, Ok, Err, Result, sym, ap, ◌∙◌}
+use Rattle.std.proofs.Common.{◌≡◌, ℕ, List, Ok, Result, sym, ap, ◌∙◌}
 use Rattle.packed.specs.declared.fault.Fault.{Fault}
 use Rattle.table.specs.declared.section.Layout.{Layout}
 use Rattle.table.specs.declared.table.Table.{Table}
@@ -8,7 +8,7 @@ use Rattle.table.specs.Table.{table_of}
 use Rattle.table.specs.Tabled.{bytes_of}
 use Rattle.table.proofs.Tabling.{table-read}
 use Rattle.checker.specs.Checking.{check_of}
-use Rattle.localtool.specs.Programs.{Types, types_in, judged_of, held, shown}
+use Rattle.localtool.specs.Programs.{Types, types_in, judged_of, held}
 
 abbrev right : Types → Result Types Fault
 right ts = Ok ts
@@ -25,6 +25,5 @@ types-held t bytes same =
     ap (λ x. right (types_in x t.layout)) same
     ∙ sym (ap (read bytes) (ap table_of (sym same) ∙ table-read t))
 
-pub judged-shown : (r : Result (Unit {0}) Fault) (t : Table) (bytes old : List ℕ) → r ≡ check_of bytes → bytes_of t ≡ cond (is_ok r) bytes old → shown r t ≡ judged_of bytes
-judged-shown (Ok u) t bytes old e same = types-held t bytes same ∙ ap (judged bytes) e
-judged-shown (Err f) t bytes old e same = ap (judged bytes) e
+pub judged-right : (t : Table) (bytes : List ℕ) → Ok tt ≡ check_of bytes → bytes_of t ≡ bytes → right (held t) ≡ judged_of bytes
+judged-right t bytes e same = types-held t bytes same ∙ ap (judged bytes) e

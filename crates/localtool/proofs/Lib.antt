@@ -1,5 +1,2 @@
-pub mod Filled
 pub mod Judging
-pub mod Replying
-pub mod Asking
 pub mod Called

@@ -7,6 +7,7 @@ use Rattle.table.specs.declared.section.Layout.{Layout}
 use Rattle.table.specs.declared.table.Table.{Table}
 use Rattle.table.specs.Sections.{onward}
 use Rattle.table.specs.Table.{constructors_in, sizes_in, table_of}
+use Rattle.checker.specs.declared.checked.Checked.{Checked}
 use Rattle.checker.specs.Checking.{check_of, forms_held, types_held}
 
 -- the constructors, by number, and how many types there are
@@ -24,7 +25,7 @@ judged_of bytes = onward (check_of bytes) (λ _. onward (table_of bytes) (λ l. 
 abbrev pub held : Table → Types
 held t = record { forms = forms_held t; count = types_held t }
 
--- the types of the table that is held, after a check with this answer
-abbrev pub shown : Result (Unit {0}) Fault → Table → Result Types Fault
-shown (Ok u) t = Ok (held t)
-shown (Err f) t = Err f
+-- the types of a program, or the fault of a table
+abbrev pub shown : Result Checked Fault → Result Types Fault
+shown (Ok c) = Ok (held c.table)
+shown (Err f) = Err f

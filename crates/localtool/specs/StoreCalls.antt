@@ -5,27 +5,31 @@ use Rattle.cells.specs.Meaning.{Meaning, room_at, fresh}
 use Rattle.cells.specs.Calls.{answer, open_refusal, put_refusal, get_refusal, room_refusal, byte_at, after_open, after_put}
 use Rattle.words.specs.declared.call.Call.{Call}
 use Rattle.words.specs.declared.call.Call.TheVariants as call
-use Rattle.localtool.specs.declared.call_answer.CallAnswer.{CallAnswer}
-use Rattle.localtool.specs.declared.call_answer.CallAnswer.TheVariants as told
+use Rattle.localtool.specs.declared.answer.Told.{Told}
+use Rattle.localtool.specs.declared.answer.Told.TheVariants as told
 use Rattle.localtool.specs.declared.layout.Layout.{Layout}
 use Rattle.localtool.specs.declared.layout.Layout.TheVariants as layout
 
+-- what a store answers to one call
+abbrev pub CallAnswer : Type 0
+CallAnswer = Result Told Fault
+
 abbrev pub numbered : Result ℕ Fault → CallAnswer
-numbered (Ok n) = told.Number n
-numbered (Err f) = told.Refused f
+numbered (Ok n) = Ok (told.Number n)
+numbered (Err f) = Err f
 
 abbrev pub filled : Result (Unit {0}) Fault → CallAnswer
-filled (Ok u) = told.Done
-filled (Err f) = told.Refused f
+filled (Ok u) = Ok told.Done
+filled (Err f) = Err f
 
 -- one call: what is answered, and what the store means after it
 abbrev pub answer_to : Meaning → Call → CallAnswer
 answer_to m (call.Open n) = numbered (answer (open_refusal m n) (length m.regions))
 answer_to m (call.Put r i b) = filled (answer (put_refusal m r i) tt)
 answer_to m (call.Get r i) = numbered (answer (get_refusal m r i) (byte_at m r i))
-answer_to m call.Free = told.Number m.free
-answer_to m call.Grain = told.Number m.grain
-answer_to m call.Regions = told.Number (length m.regions)
+answer_to m call.Free = Ok (told.Number m.free)
+answer_to m call.Grain = Ok (told.Number m.grain)
+answer_to m call.Regions = Ok (told.Number (length m.regions))
 answer_to m (call.Room r) = numbered (answer (room_refusal m r) (room_at m r))
 
 abbrev pub after_call : Meaning → Call → Meaning

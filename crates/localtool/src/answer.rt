@@ -1,5 +1,4 @@
 // What a line is answered, and how that is written.
-use crate::call_answer::CallAnswer;
 use packed::{Fault, Node};
 use std::fmt;
 
@@ -12,24 +11,15 @@ pub enum Answer {
     // the nodes of a tree
     Unpacked(Vec<Node>),
     // the answers to calls of a store
-    Told(Vec<CallAnswer>),
-    // the first fault
-    Faulty(Fault),
-    // the line is no command
-    Bad,
+    Told(Vec<Result<Told, Fault>>),
 }
 
-// A byte as two digits.
+// What a store says to a call that it accepts. (No Option: a put is answered, by no number.)
 #[derive(Clone, Copy)]
-struct Hex {
-    byte: u8,
-}
-
-impl fmt::Display for Hex {
-    fn fmt<W: fmt::Write>(&self, f: &mut fmt::Formatter<W>) -> fmt::Result {
-        let byte = self.byte;
-        write!(f, "{byte:02x}")
-    }
+pub enum Told {
+    Number(usize),
+    // a put is done
+    Done,
 }
 
 fn write_bytes<W: fmt::Write>(bytes: &[u8], f: &mut fmt::Formatter<W>) -> fmt::Result {
@@ -37,42 +27,41 @@ fn write_bytes<W: fmt::Write>(bytes: &[u8], f: &mut fmt::Formatter<W>) -> fmt::R
         return write!(f, "-");
     }
     for byte in bytes {
-        let hex = Hex { byte: *byte };
-        write!(f, "{hex}")?;
+        write!(f, "{byte:02x}")?;
     }
     Ok(())
 }
 
-fn write_nodes<W: fmt::Write>(nodes: &[Node], f: &mut fmt::Formatter<W>) -> fmt::Result {
-    if nodes.is_empty() {
-        return write!(f, "-");
-    }
-    for (i, node) in nodes.iter().enumerate() {
-        let before = if i == 0 { "" } else { "," };
-        let number = node.constructor;
-        let [a, b, c, d] = node.integers;
-        write!(f, "{before}{number}:{a}:{b}:{c}:{d}")?;
-    }
-    Ok(())
+fn write_node<W: fmt::Write>(node: &Node, f: &mut fmt::Formatter<W>) -> fmt::Result {
+    let number = node.constructor;
+    let [a, b, c, d] = node.integers;
+    write!(f, "{number}:{a}:{b}:{c}:{d}")
 }
 
-impl fmt::Display for CallAnswer {
-    fn fmt<W: fmt::Write>(&self, f: &mut fmt::Formatter<W>) -> fmt::Result {
-        match self {
-            CallAnswer::Number(n) => write!(f, "{n}"),
-            CallAnswer::Done => write!(f, "ok"),
-            CallAnswer::Refused(fault) => {
-                let number = fault.number();
-                write!(f, "!{number}")
-            }
+fn write_told<W: fmt::Write>(told: &Result<Told, Fault>, f: &mut fmt::Formatter<W>) -> fmt::Result {
+    match told {
+        Ok(Told::Number(n)) => write!(f, "{n}"),
+        Ok(Told::Done) => write!(f, "ok"),
+        Err(fault) => {
+            let number = fault.number();
+            write!(f, "!{number}")
         }
     }
 }
 
-fn write_answers<W: fmt::Write>(answers: &[CallAnswer], f: &mut fmt::Formatter<W>) -> fmt::Result {
-    for (i, answer) in answers.iter().enumerate() {
-        let before = if i == 0 { "" } else { "," };
-        write!(f, "{before}{answer}")?;
+// Each item, with commas between them.
+fn write_list<T, W: fmt::Write, F: Fn(&T, &mut fmt::Formatter<W>) -> fmt::Result>(
+    items: &[T],
+    write_item: F,
+    f: &mut fmt::Formatter<W>,
+) -> fmt::Result
+    requires { F.IsAlwaysCallable write_item }
+{
+    for (i, item) in items.iter().enumerate() {
+        if i > 0 {
+            write!(f, ",")?;
+        }
+        write_item(item, f)?;
     }
     Ok(())
 }
@@ -86,19 +75,13 @@ impl fmt::Display for Answer {
                 write!(f, "ok {long} ")?;
                 write_bytes(bytes, f)
             }
+            Answer::Unpacked(nodes) if nodes.is_empty() => write!(f, "ok 0 -"),
             Answer::Unpacked(nodes) => {
                 let count = nodes.len();
                 write!(f, "ok {count} ")?;
-                write_nodes(nodes, f)
+                write_list(nodes, write_node, f)
             }
-            Answer::Told(answers) => write_answers(answers, f),
-            Answer::Faulty(fault) => {
-                let number = fault.number();
-                let layer = fault.layer;
-                let place = fault.place;
-                write!(f, "fault {number} {layer} {place}")
-            }
-            Answer::Bad => write!(f, "bad"),
+            Answer::Told(answers) => write_list(answers, write_told, f),
         }
     }
 }

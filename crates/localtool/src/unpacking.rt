@@ -1,69 +1,44 @@
 // unpack TABLE TYPE BUFFER BYTES: a tree's bytes into its nodes.
-ghost use Rattle.std.specs.Prelude.{◌≡◌, IfOk};
-ghost use Rattle.localtool.specs.Answers.{on_types, reply_in, unpack_reply, unpack_reply_for};
-ghost use Rattle.localtool.specs.Programs.{held, judged_of};
+ghost use Rattle.std.specs.Prelude.{◌≡◌, IfSome};
+ghost use Rattle.localtool.specs.Answers.{reply_in, unpack_reply, unpack_reply_for};
+ghost use Rattle.localtool.specs.Programs.{held};
 
 use crate::answer::Answer;
-use crate::operands::{last, request};
-use crate::program::judge;
+use crate::program::program_answer;
+use crate::request::Request;
 use checker::Checked;
 use packed::Node;
-use std::alloc::{AllocError, Global};
-use words::bytes_written;
+use std::alloc::Global;
+use words::{Refusal, bytes_written};
 
 const BLANK: Node = Node {
     constructor: 0,
     integers: [0; 4],
 };
 
-// The bytes, unpacked into a buffer with so many places.
-fn unpacked_in(
+// The bytes, unpacked into a buffer with as many places as the request says.
+fn unpacked(
     heap: Global,
     checked: &Checked,
-    ty: u8,
-    room: usize,
+    request: &Request,
     bytes: &[u8],
-) -> Result<Answer, AllocError>
-    ensures value { IfOk result (λ a. reply_in a ≡ unpack_reply_for (held checked.now.table) ty room bytes.now) }
+) -> Result<Answer, Refusal>
+    ensures value { IfSome (reply_in result) (λ r. r ≡ unpack_reply_for (held checked.now.table) request.now.ty request.now.room bytes.now) }
 {
-    let mut nodes = vec![in heap; BLANK; room]?;
-    match checked.unpack(ty, bytes, nodes.as_mut_slice()) {
-        Ok(count) => {
-            nodes.truncate(count);
-            Ok(Answer::Unpacked(nodes))
-        }
-        Err(fault) => Ok(Answer::Faulty(fault)),
-    }
+    let mut nodes = vec![in heap; BLANK; request.room]?;
+    let count = checked.unpack(request.ty, bytes, nodes.as_mut_slice())?;
+    nodes.truncate(count);
+    Ok(Answer::Unpacked(nodes))
 }
 
-// The same, for a type of the program that the table is; or the table's fault.
-fn unpacked_for(
-    heap: Global,
-    table: &[u8],
-    ty: u8,
-    room: usize,
-    bytes: &[u8],
-) -> Result<Answer, AllocError>
-    ensures value { IfOk result (λ a. reply_in a ≡ on_types (judged_of table.now) (λ ts. unpack_reply_for ts ty room bytes.now)) }
+// `bytes_written` by its name alone gets no proof here: another crate's function is passed in a closure.
+pub fn unpack_answer(heap: Global, operands: &[u8]) -> Result<Answer, Refusal>
+    ensures value { IfSome (reply_in result) (λ r. r ≡ unpack_reply operands.now) }
 {
-    let mut checked = Checked::built_in();
-    match judge(&mut checked, table) {
-        Ok(()) => unpacked_in(heap, &checked, ty, room, bytes),
-        Err(fault) => Ok(Answer::Faulty(fault)),
-    }
-}
-
-pub fn unpack_answer(heap: Global, operands: &[u8]) -> Result<Answer, AllocError>
-    ensures value { IfOk result (λ a. reply_in a ≡ unpack_reply operands.now) }
-{
-    let Some(request) = request(heap, operands)? else {
-        return Ok(Answer::Bad);
-    };
-    let Some(word) = last(operands) else {
-        return Ok(Answer::Bad);
-    };
-    let Some(bytes) = bytes_written(heap, word)? else {
-        return Ok(Answer::Bad);
-    };
-    unpacked_for(heap, &request.table, request.ty, request.room, &bytes)
+    program_answer(
+        heap,
+        operands,
+        |heap, word| bytes_written(heap, word),
+        unpacked,
+    )
 }

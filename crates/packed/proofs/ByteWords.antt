@@ -2,6 +2,7 @@
 use Rattle.std.proofs.Common.{◌≡◌, ℕ, zero, suc, ◌+◌, ◌*◌, ◌<◌, ◌≤◌, List, [], ◌∷◌, ◌++◌, length, get_or, take, drop, replicate, Some, None, Ok, Err, Option, sym, refl, ap, ◌∙◌, subst, ⊎_elim, arith}
 use Rattle.std.specs.List.{slice_get}
 use Rattle.std.proofs.lemmas.List.{drop_at, length-append, length-drop, length-replicate, take-append-drop}
+use Rattle.std.proofs.lemmas.Option.{slice_get_within}
 use Rattle.std.proofs.lemmas.Bool.{cases_lt}
 use Rattle.packed.specs.declared.constructor.Constructor.{Constructor}
 use Rattle.packed.specs.Forms.{either, subtrees, form_at}
@@ -17,11 +18,6 @@ use Rattle.packed.proofs.Words.{read-after, read-moved, never}
 use Rattle.packed.proofs.Digits.{Bytes, eights-bytes, bytes-append, bytes_drop, length-eights, length-integers, fit-integers, eights-integers}
 use Rattle.packed.proofs.Growth.{Onward, Begun, tree-accepted, tree-ended, forest-accepted, tree-grown}
 use Rattle.packed.proofs.Least.{Known, known-append, forest-of, alive-after, leaves}
-
-pub nth-below : {A : Type 0} (xs : List A) (i : ℕ) (x : A) → slice_get xs i ≡ Some x → i < length xs
-nth-below [] i x h = absurd (let z : ◌≡◌ {A = ℕ} 0 1 = cc in omega arith)
-nth-below (y ∷ xs) zero x h = omega arith
-nth-below (y ∷ xs) (suc i) x h = let l = nth-below xs i x h in omega arith
 
 -- bytes, by what is known of each place
 pub bytes-from : (bs : List ℕ) (n : ℕ) → ((i : ℕ) → i < n → get_or bs i 0 < 256) → Bytes (take n bs)
@@ -96,7 +92,7 @@ module _ (g : List Constructor) where
     mutual
       tree-bytes : (x : Tree) (t : ℕ) → OfType g t x → Bytes (spelled as_bytes x)
       tree-bytes (tree k zs ts) t w =
-          let l = nth-below g k w.0 w.1.named in
+          let l = slice_get_within g k w.0 w.1.named in
           (omega arith, bytes-append (eights zs) (spelled_all as_bytes ts) (eights-bytes zs) (forest-bytes ts (subtrees w.0) w.2))
 
       forest-bytes : (f : Forest) (ks : List ℕ) → OfTypes g ks f → Bytes (spelled_all as_bytes f)

@@ -1,8 +1,9 @@
 -- Integers and their eight bytes, both ways.
-use Rattle.std.proofs.Common.{◌≡◌, ℕ, zero, suc, ◌+◌, ◌*◌, ◌/◌, ◌%◌, ◌^◌, ◌<◌, ◌≤◌, List, [], ◌∷◌, ◌++◌, length, take, drop, ℤ, sym, refl, ap, ◌∙◌, pow-suc, arith, w64, SFits, to_z, of_z}
+use Rattle.std.proofs.Common.{◌≡◌, ℕ, zero, suc, ◌+◌, ◌*◌, ◌/◌, ◌%◌, ◌^◌, ◌<◌, ◌≤◌, List, [], ◌∷◌, ◌++◌, map, length, take, drop, ℤ, sym, refl, ap, ◌∙◌, pow-suc, arith, w64, SFits, to_z, of_z}
 use mir.Facts.{Fits-of_z, sfits_to_z}
 use Rattle.std.proofs.lemmas.List.{append_assoc, length-append, length-take-le, length-drop, take_at, drop_at}
 use Rattle.std.proofs.lemmas.Int.{to_z-of_z, of_z-to_z}
+use Rattle.std.specs.Simd.{first_chunks}
 use Rattle.packed.specs.Trees.{Fit, low, eight, eights}
 use Rattle.packed.specs.Packing.{joined, integer, integers_in}
 
@@ -76,6 +77,12 @@ length-eights (z ∷ zs) = length-append (eight z) (eights zs) ∙ (let e = leng
 pub length-integers : (k : ℕ) (bs : List ℕ) → length (integers_in k bs) ≡ k
 length-integers zero bs = refl
 length-integers (suc k) bs = ap suc (length-integers k (drop 8 bs))
+
+-- the integers in the front of bytes, as chunks of eight have them
+pub eights-front : (k n : ℕ) (bs : List ℕ) → k ≤ n → map integer (take k (first_chunks 8 n bs)) ≡ integers_in k bs
+eights-front zero n bs h = refl
+eights-front (suc k) zero bs h = absurd (omega arith)
+eights-front (suc k) (suc n) bs h = ap (λ l. integer (take 8 bs) ∷ l) (eights-front k n (drop 8 bs) (omega arith))
 
 pub fit-integers : (k : ℕ) (bs : List ℕ) → 8 * k ≤ length bs → Bytes bs → Fit (integers_in k bs)
 fit-integers zero bs h q = tt

@@ -1,5 +1,5 @@
 -- What the limits of a description say of its sizes and its constructors.
-use Rattle.std.proofs.Common.{◌≡◌, ℕ, zero, suc, ◌+◌, ◌<◌, ◌≤◌, Bool, true, false, cond, ◌&&◌, eqb, ltb, leb, List, [], ◌∷◌, map, length, take, drop, is_some, Some, None, Option, sym, refl, ap, ◌∙◌, arith}
+use Rattle.std.proofs.Common.{◌≡◌, ℕ, zero, suc, ◌+◌, ◌<◌, ◌≤◌, Bool, true, false, cond, ◌&&◌, eqb, ltb, leb, List, [], ◌∷◌, map, length, take, drop, is_some, IfSome, Some, None, Option, sym, refl, ap, ◌∙◌, arith}
 use Rattle.std.specs.List.{slice_get}
 use Rattle.std.proofs.lemmas.Bool.{true≢false, and_parts, leb-true, ltb-true, eqb-true, eq-eqb, cond-true}
 use Rattle.packed.specs.declared.constructor.Constructor.{Constructor}
@@ -98,6 +98,14 @@ pub forms-fair : (sizes : List ℕ) (g : List Constructor) → is_some (limit_of
 forms-fair sizes g h b c e =
     fair-parts (length sizes) c.fields
     (fair-at (length sizes) 0 (fields_in g) b c.fields (limits sizes (fields_in g) h).each (nth-map (λ d. d.fields) g b c e))
+
+-- a constructor that there is has few integers and few subtrees
+pub few-fields : (sizes : List ℕ) (g : List Constructor) → is_some (limit_of sizes (fields_in g)) ≡ false → (b : ℕ) → IfSome (slice_get g b) (λ c. (c.fields.integers ≤ 4) × (c.fields.subtrees ≤ 4))
+few-fields sizes g h b = found (slice_get g b) refl
+  where
+    found : (o : Option Constructor) → slice_get g b ≡ o → IfSome o (λ c. (c.fields.integers ≤ 4) × (c.fields.subtrees ≤ 4))
+    found None e = tt
+    found (Some c) e = let fair = forms-fair sizes g h b c e in (fair.integers, fair.subtrees)
 
 -- the constructor numbered b, where it is one of type t
 typed : (t : ℕ) (o : Option Constructor) (c : Constructor) → either o None (λ d. cond (eqb d.of t) (Some d) None) ≡ Some c → (o ≡ Some c) × (c.of ≡ t)

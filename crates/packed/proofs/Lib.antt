@@ -1,8 +1,6 @@
 pub mod Fair
 pub mod Limits
 pub mod Numbers
-pub mod Dues
-pub mod Closes
 pub mod Scans
 pub mod Blanks
 pub mod Digits

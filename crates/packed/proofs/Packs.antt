@@ -1,6 +1,7 @@
 -- The bytes of nodes, one node at a time.
-use Rattle.std.proofs.Common.{◌≡◌, ℕ, ◌+◌, ◌*◌, ◌<◌, ◌≤◌, List, [], ◌∷◌, ◌++◌, length, get_or, take, drop, sym, refl, ap, ◌∙◌, arith}
-use Rattle.std.proofs.lemmas.List.{append_assoc, append-nil, drop_more, take_more, length-take-le}
+use Rattle.std.proofs.Common.{◌≡◌, ℕ, suc, ◌+◌, ◌*◌, ◌<◌, ◌≤◌, List, [], ◌∷◌, ◌++◌, length, get_or, take, drop, sum_by, sym, refl, ap, ◌∙◌, arith}
+use Rattle.std.proofs.lemmas.List.{append_assoc, append-nil, drop_more, take_more, length-append, length-take-le}
+use Rattle.std.proofs.lemmas.List.Sums.{sum_by-cons}
 use Rattle.std.proofs.lemmas.Option.{slice_get-get_or}
 use Rattle.packed.specs.declared.constructor.Constructor.{Constructor}
 use Rattle.packed.specs.declared.node.Node.{Node}
@@ -40,3 +41,11 @@ bytes-push g ns i h =
     ap (λ l. bytes_of g (take i ns) ++ l) (sym (append-nil (head_of g (get_or ns i blank_node))))
     ∙ sym (bytes-append g (take i ns) (get_or ns i blank_node ∷ []))
     ∙ ap (bytes_of g) (sym (take_more ns i blank_node h))
+
+pub length-bytes : (g : List Constructor) (ns : List Node) → AllWhole ns → ((k : ℕ) → integers_of g k ≤ 4) → sum_by (λ n. 1 + 8 * integers_of g n.constructor) ns ≡ length (bytes_of g ns)
+length-bytes g [] whole few = refl
+length-bytes g (n ∷ ns) whole few =
+    let head = length-head g n (whole 0 n refl) (few n.constructor) in
+    let rest = length-bytes g ns (λ i m e. whole (suc i) m e) few in
+    let parts = length-append (head_of g n) (bytes_of g ns) in
+    sum_by-cons (λ m. 1 + 8 * integers_of g m.constructor) n ns ∙ omega arith

@@ -1,6 +1,6 @@
 -- The reading of a head: a symbol that cannot stand, bytes that end too soon, or what is due behind it.
 use Rattle.std.proofs.Common.{◌≡◌, ℕ, zero, suc, ◌+◌, ◌*◌, ◌<◌, ◌≤◌, Bool, true, false, cond, List, [], ◌∷◌, ◌++◌, length, get_or, drop, Some, None, Err, Option, Result, sym, refl, ap, ◌∙◌, add-zero, arith, length-drop}
-use Rattle.std.proofs.lemmas.List.{drop_more, drop_all, drop-drop}
+use Rattle.std.proofs.lemmas.List.{drop_more, drop-drop}
 use Rattle.packed.specs.declared.constructor.Constructor.{Constructor}
 use Rattle.packed.specs.declared.node.Node.{Node}
 use Rattle.packed.specs.Forms.{either, subtrees, form_at}
@@ -27,14 +27,8 @@ module _ (g : List Constructor) (t : ℕ) (due : List ℕ) where
   tag_read b bs p (Some c) e = ap (λ o. either (either o None (λ c. Some (left (8 * c.fields.integers) (subtrees c ++ due)))) (Err p) (λ s. read_bytes g s bs (p + 1))) e
 
   module _ (bs : List ℕ) (at : ℕ) where
-    pub bytes-end : length bs ≤ at → read_bytes g (left 0 (t ∷ due)) (drop at bs) at ≡ Err at
-    bytes-end h = ap (λ l. read_bytes g (left 0 (t ∷ due)) l at) (drop_all at bs h)
-
     tag_at : (o : Option Constructor) → at < length bs → form_at g t (get_or bs at 0) ≡ o → read_bytes g (left 0 (t ∷ due)) (drop at bs) at ≡ on_tag (drop (at + 1) bs) at o
     tag_at o h e = ap (λ l. read_bytes g (left 0 (t ∷ due)) l at) (drop_more bs at 0 h) ∙ tag_read (get_or bs at 0) (drop (at + 1) bs) at o e
-
-    pub bytes-none : at < length bs → form_at g t (get_or bs at 0) ≡ None → read_bytes g (left 0 (t ∷ due)) (drop at bs) at ≡ Err at
-    bytes-none h e = tag_at None h e
 
     pub bytes_cut : (c : Constructor) → at < length bs → form_at g t (get_or bs at 0) ≡ Some c → length bs < at + (1 + 8 * c.fields.integers) → read_bytes g (left 0 (t ∷ due)) (drop at bs) at ≡ Err (length bs)
     bytes_cut c h e short =
@@ -65,10 +59,3 @@ module _ (g : List Constructor) (t : ℕ) (due : List ℕ) where
   node-read n ns p (Some c) e =
       ap (λ o. either (either o None (λ c. cond (blank_behind c.fields.integers n) (Some (subtrees c ++ due)) None)) (Err p) (λ s. read_nodes g s ns (p + 1))) e
       ∙ turn n ns p c (blank_behind c.fields.integers n)
-
-  module _ (ns : List Node) (at : ℕ) where
-    pub nodes-end : length ns ≤ at → read_nodes g (t ∷ due) (drop at ns) at ≡ Err at
-    nodes-end h = ap (λ l. read_nodes g (t ∷ due) l at) (drop_all at ns h)
-
-    pub node_at : (d : Node) (o : Option Constructor) → at < length ns → form_at g t (get_or ns at d).constructor ≡ o → read_nodes g (t ∷ due) (drop at ns) at ≡ on_form (get_or ns at d) (drop (at + 1) ns) at o
-    node_at d o h e = ap (λ l. read_nodes g (t ∷ due) l at) (drop_more ns at d h) ∙ node-read (get_or ns at d) (drop (at + 1) ns) at o e

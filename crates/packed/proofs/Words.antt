@@ -3,7 +3,7 @@ use Rattle.std.proofs.Common.{◌≡◌, ℕ, suc, ◌+◌, ◌<◌, ◌≤◌, 
 use Rattle.packed.specs.Forms.{either}
 use Rattle.packed.specs.Reading.{reads}
 
-pub never : {X : Type 0} {A : Type 0} {p : ℕ} (r : Result A ℕ) (a : A) → r ≡ Ok a → r ≡ Err p → X
+pub never : {X A E : Type 0} {p : E} (r : Result A E) (a : A) → r ≡ Ok a → r ≡ Err p → X
 never r a e f = absurd (let z : ◌≡◌ {A = ℕ} 0 1 = cc in omega arith)
 
 same_end : (b : Bool) (p q : ℕ) → cond {A = Result (Unit {0}) ℕ} b (Ok tt) (Err p) ≡ Ok tt → cond {A = Result (Unit {0}) ℕ} b (Ok tt) (Err q) ≡ Ok tt

@@ -12,11 +12,7 @@ abbrev pub place_of : Result ℕ ℕ → ℕ
 place_of (Ok e) = e
 place_of (Err p) = p
 
--- an answer lies between where the reading began and its end
-abbrev pub Within : Result ℕ ℕ → ℕ → ℕ → Type 0
-Within r at n = (at ≤ place_of r) × (place_of r ≤ n)
-
--- a tree has at least its head
+-- an answer lies between where the reading began and its end, and a tree has at least its head
 abbrev pub Beyond : Result ℕ ℕ → ℕ → ℕ → Type 0
 Beyond (Ok e) at n = (at < e) × (e ≤ n)
 Beyond (Err p) at n = (at ≤ p) × (p ≤ n)

@@ -1,5 +1,6 @@
--- The number of each ground of refusal.
-use Rattle.std.specs.Prelude.{ℕ}
+-- Faults: the number of each ground of refusal, and what a condition that fails is answered.
+use Rattle.std.specs.Prelude.{ℕ, Bool, cond, Ok, Err, Result}
+use Rattle.packed.specs.declared.fault.Fault.{Fault}
 use Rattle.packed.specs.declared.fault.Reason.{Reason}
 use Rattle.packed.specs.declared.fault.Reason.TheVariants as reason
 
@@ -27,3 +28,10 @@ number_of reason.PastRoom = 62
 number_of reason.Filled = 63
 number_of reason.Empty = 64
 number_of reason.OpenRefused = 65
+
+abbrev pub found : Reason → ℕ → ℕ → Fault
+found why layer p = record { reason = why; layer = layer; place = p }
+
+-- nothing, where a test holds, or else a fault
+abbrev pub given : Bool → Reason → ℕ → ℕ → Result (Unit {0}) Fault
+given test why layer p = cond test (Ok tt) (Err (found why layer p))

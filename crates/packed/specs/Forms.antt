@@ -1,6 +1,6 @@
 -- Descriptions of types: the limits that they keep, and the constructors that they number.
-use Rattle.std.specs.Prelude.{ℕ, ◌+◌, Bool, true, cond, ◌&&◌, List, [], ◌∷◌, ◌++◌, map, length, take, drop, Some, None, Option, ◌==◌, nat_eq, nat_le, nat_lt}
-use Rattle.std.specs.List.{slice_get}
+use Rattle.std.specs.Prelude.{ℕ, ◌+◌, Bool, cond, ◌&&◌, List, [], ◌∷◌, ◌++◌, map, length, take, drop, Some, None, Option, ◌==◌, nat_eq, nat_le, nat_lt}
+use Rattle.std.specs.List.{slice_get, list_all}
 use Rattle.packed.specs.declared.constructor.Constructor.{Constructor}
 use Rattle.packed.specs.declared.constructor.Fields.{Fields}
 use Rattle.packed.specs.declared.constructor.Limit.{Limit}
@@ -25,8 +25,7 @@ numbered t [] fs = []
 numbered t (n ∷ ns) fs = map (λ f. record { of = t; fields = f }) (take n fs) ++ numbered (t + 1) ns (drop n fs)
 
 abbrev pub all : {A : Type 0} → (A → Bool) → List A → Bool
-all test [] = true
-all test (x ∷ xs) = test x && all test xs
+all test xs = list_all test xs
 
 -- up to four integers and four subtrees, each of one of the types, and 255 in the places behind
 abbrev pub fair : ℕ → Fields → Bool

@@ -2,6 +2,7 @@ pub mod Faults
 pub mod Forms
 pub mod Shaped
 pub mod Reading
+pub mod Ends
 pub mod Descent
 pub mod Trees
 pub mod Packing

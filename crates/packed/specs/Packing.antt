@@ -8,6 +8,7 @@ use Rattle.packed.specs.declared.fault.Fault.{Fault}
 use Rattle.packed.specs.declared.fault.Reason.{Reason}
 use Rattle.packed.specs.declared.fault.Reason.TheVariants as reason
 use Rattle.packed.specs.declared.node.Node.{Node}
+use Rattle.packed.specs.Faults.{found}
 use Rattle.packed.specs.Forms.{either}
 use Rattle.packed.specs.Reading.{left, read_nodes, read_bytes}
 use Rattle.packed.specs.Trees.{node_of, as_bytes}
@@ -43,7 +44,7 @@ nodes_of g zero (b ∷ bs) = either (slice_get g b) [] (λ c. node_of b (integer
 
 -- a refusal of a call, found at a place
 abbrev pub refusal : Reason → ℕ → Fault
-refusal why p = record { reason = why; layer = 4; place = p }
+refusal why p = found why 4 p
 
 -- The type must be one of the shapes', what is read exactly one tree of it, and the buffer long enough.
 abbrev pub fitted : Result (Unit {0}) ℕ → ℕ → ℕ → Result ℕ Fault

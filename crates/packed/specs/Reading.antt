@@ -1,5 +1,5 @@
 -- Reading a word symbol by symbol, and the two words that a tree has: its nodes and its bytes.
-use Rattle.std.specs.Prelude.{ℕ, zero, suc, ◌+◌, ◌*◌, Bool, true, false, cond, List, [], ◌∷◌, ◌++◌, drop, ℤ, pos, negsuc, Some, None, Ok, Err, Option, Result, ◌==◌}
+use Rattle.std.specs.Prelude.{◌≡◌, ℕ, zero, suc, ◌+◌, ◌*◌, Bool, true, false, cond, List, [], ◌∷◌, ◌++◌, drop, ℤ, pos, negsuc, Some, None, Ok, Err, Option, Result, ◌==◌}
 use Rattle.packed.specs.declared.constructor.Constructor.{Constructor}
 use Rattle.packed.specs.declared.node.Node.{Node}
 use Rattle.packed.specs.Forms.{either, subtrees, form_at, all}
@@ -46,3 +46,7 @@ read_nodes g due ns p = reads (next_node g) none_due due ns p
 
 abbrev pub read_bytes : List Constructor → Left → List ℕ → ℕ → Result (Unit {0}) ℕ
 read_bytes g s bs p = reads (next_byte g) nothing_left s bs p
+
+-- bytes that are read to their end, with some trees due
+abbrev pub Readable : List Constructor → List ℕ → Type 0
+Readable g bs = (due : List ℕ) × (read_bytes g (left 0 due) bs 0 ≡ Ok tt)

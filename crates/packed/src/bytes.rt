@@ -1,53 +1,34 @@
-// Packed bytes as a source of heads.
+// Bytes as symbols in which heads stand.
 ghost use Rattle.std.specs.Prelude.{◌≡◌, ◌+◌, ◌*◌, ◌<◌, ◌≤◌, length, drop, slice_index};
+ghost use Rattle.packed.specs.Ends.{bytes_end};
 ghost use Rattle.packed.specs.Reading.{left, read_bytes};
 
-use crate::constructor::Constructor;
 use crate::head::Head;
-use crate::reader::Source;
+use crate::reader::Symbol;
 use crate::shapes::Shapes;
 
-// The bytes of a tree, which a `Source` reads.
-#[derive(Clone, Copy)]
-pub struct Bytes<'a> {
-    pub bytes: &'a [u8],
-}
-
-// How many bytes a head of this constructor has.
-pub fn head_len(constructor: &Constructor) -> usize
-    ensures value { result ≡ 1 + 8 * constructor.now.fields.integers }
+// How many bytes a head of k integers has.
+pub fn head_len(k: u8) -> usize
+    ensures value { result ≡ 1 + 8 * k }
     ensures bound { result ≤ 2041 }
 {
-    1 + 8 * constructor.fields.integers as usize
+    1 + 8 * usize::from(k)
 }
 
-impl<'a> Source for Bytes<'a> {
-    ghost size = { λ s. length s.bytes.now };
-
-    ghost scan = { λ s g due at. read_bytes g (left 0 due) (drop at s.bytes.now) at };
+impl Symbol for u8 {
+    ghost scan = { λ bs g due at. read_bytes g (left 0 due) (drop at bs) at };
 
     // true of every byte: what is known of one that was read, for the laws of refusals
-    ghost fits = { λ s i. slice_index s.bytes.now i < 256 };
+    ghost fits = { λ bs i. slice_index bs i < 256 };
 
-    fn close(&self, at: usize) -> Result<(), usize> {
-        if at < self.bytes.len() {
-            Err(at)
-        } else {
-            Ok(())
-        }
-    }
+    ghost ends = { bytes_end };
 
-    fn head(&self, shapes: &Shapes, at: usize, ty: u8) -> Result<Head, usize> {
-        let bytes = self.bytes;
-        if at >= bytes.len() {
-            return Err(at);
-        }
-        let Some(constructor) = shapes.form(ty, bytes[at]) else {
-            return Err(at);
-        };
-        let length = head_len(&constructor);
-        if bytes.len() - at < length {
-            return Err(bytes.len());
+    fn head(shapes: &Shapes, word: &[u8], at: usize, ty: u8) -> Result<Head, usize> {
+        let tag = *word.get(at).ok_or(at)?;
+        let constructor = shapes.form(ty, tag).ok_or(at)?;
+        let length = head_len(constructor.fields.integers);
+        if word.len() - at < length {
+            return Err(word.len());
         }
         Ok(Head {
             constructor,

@@ -1,61 +1,62 @@
 // Why a call is refused: one record for every layer, its numbers from one definition.
 ghost use Rattle.std.specs.Prelude.{◌≡◌};
-ghost use Rattle.packed.specs.Faults.{number_of};
+ghost use Rattle.packed.specs.Faults.{found, given, number_of};
 ghost use Rattle.packed.specs.Packing.{refusal};
 
-// The grounds of refusal, in the order of their numbers.
-#[derive(Clone, Copy)]
+// The grounds of refusal, each with the number that clients know it by.
+#[derive(Clone, Copy, Debug, PartialEq, Eq)]
 pub enum Reason {
     // bytes end before the rows do
-    BytesEnd,
+    BytesEnd = 11,
     // bytes stand behind the rows
-    BytesBehind,
+    BytesBehind = 12,
     // a count is outside its limit
-    Count,
+    Count = 13,
     // a number has no meaning
-    Meaning,
+    Meaning = 21,
     // rows are out of order
-    RowOrder,
+    RowOrder = 22,
     // a name is not in scope, or bound twice
-    Scope,
+    Scope = 31,
     // a kind or a type is wrong
-    Kind,
+    Kind = 32,
     // a new location is not asked for where it may be
-    LocationRule,
+    LocationRule = 33,
     // a tree is not written where it should be
-    Unwritten,
+    Unwritten = 34,
     // a child leaves its location behind
-    ChildLeft,
+    ChildLeft = 35,
     // arms end differently
-    ArmsDiffer,
+    ArmsDiffer = 36,
     // there is input for a program that takes none
-    NoParameter,
+    NoParameter = 41,
     // a room or an input has a size that is not allowed
-    Room,
+    Room = 42,
     // something is not exactly one tree of the type
-    NotOneTree,
+    NotOneTree = 43,
     // a store has no room for what a run opens first
-    NoOpening,
+    NoOpening = 44,
     // a budget is too large
-    Budget,
+    Budget = 51,
     // a run is not finished
-    Unfinished,
+    Unfinished = 52,
     // a buffer is too short
-    ShortBuffer,
+    ShortBuffer = 53,
     // a region is not open
-    UnknownRegion,
+    UnknownRegion = 61,
     // a cell lies past the room
-    PastRoom,
+    PastRoom = 62,
     // a cell is filled already
-    Filled,
+    Filled = 63,
     // a cell is empty
-    Empty,
+    Empty = 64,
     // a region cannot be opened
-    OpenRefused,
+    OpenRefused = 65,
 }
 
 // A refusal: why, the layer that found it, and where it lies there.
-#[derive(Clone, Copy)]
+// (A number: contracts and clients name layers by number, and a client may make a fault of any.)
+#[derive(Clone, Copy, Debug, PartialEq, Eq)]
 pub struct Fault {
     pub reason: Reason,
     pub layer: u8,
@@ -63,35 +64,32 @@ pub struct Fault {
 }
 
 impl Fault {
+    pub fn new(reason: Reason, layer: u8, place: usize) -> Fault
+        ensures value { result ≡ found reason layer place }
+    {
+        Fault {
+            reason,
+            layer,
+            place,
+        }
+    }
+
+    // Nothing where a condition holds, or else a fault.
+    pub fn unless(condition: bool, reason: Reason, layer: u8, place: usize) -> Result<(), Fault>
+        ensures value { result ≡ given condition reason layer place }
+    {
+        if condition {
+            Ok(())
+        } else {
+            Err(Fault::new(reason, layer, place))
+        }
+    }
+
     // The number that clients know the reason by.
     pub fn number(self) -> u8
         ensures value { result ≡ number_of self.reason }
     {
-        match self.reason {
-            Reason::BytesEnd => 11,
-            Reason::BytesBehind => 12,
-            Reason::Count => 13,
-            Reason::Meaning => 21,
-            Reason::RowOrder => 22,
-            Reason::Scope => 31,
-            Reason::Kind => 32,
-            Reason::LocationRule => 33,
-            Reason::Unwritten => 34,
-            Reason::ChildLeft => 35,
-            Reason::ArmsDiffer => 36,
-            Reason::NoParameter => 41,
-            Reason::Room => 42,
-            Reason::NotOneTree => 43,
-            Reason::NoOpening => 44,
-            Reason::Budget => 51,
-            Reason::Unfinished => 52,
-            Reason::ShortBuffer => 53,
-            Reason::UnknownRegion => 61,
-            Reason::PastRoom => 62,
-            Reason::Filled => 63,
-            Reason::Empty => 64,
-            Reason::OpenRefused => 65,
-        }
+        self.reason as u8
     }
 }
 
@@ -102,9 +100,5 @@ const CALL_LAYER: u8 = 4;
 pub fn refused(reason: Reason, place: usize) -> Fault
     ensures value { result ≡ refusal reason place }
 {
-    Fault {
-        reason,
-        layer: CALL_LAYER,
-        place,
-    }
+    Fault::new(reason, CALL_LAYER, place)
 }

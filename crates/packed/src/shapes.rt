@@ -6,7 +6,7 @@ use crate::constructor::{Constructor, MAX_CONSTRUCTORS, MAX_TYPES};
 
 // How many constructors each type has, and the constructors, numbered through all types. The facts: the arrays are as long
 // as they are declared and hold that many in front, which break no limit and have the types that their numbers say.
-// (No code reads `sizes`: with it the last fact can be said.)
+// (No code reads `sizes`: with it the last fact can be said. Arrays with a count beside them: no heap, and a copy cannot fail.)
 #[derive(Clone, Copy)]
 pub struct Shapes {
     sizes: [u8; MAX_TYPES],

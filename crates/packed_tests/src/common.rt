@@ -18,7 +18,7 @@ pub const NONE: u8 = 255;
 
 const SIZES: [u8; 4] = [2, 2, 3, 2];
 
-const LEAF: Fields = Fields {
+pub const LEAF: Fields = Fields {
     integers: 0,
     subtrees: 0,
     types: [NONE; 4],
@@ -65,10 +65,7 @@ const FIELDS: [Fields; 9] = [
 ];
 
 pub fn shapes() -> Result<Shapes, Fail> {
-    match Shapes::new(&SIZES, &FIELDS) {
-        Ok(shapes) => Ok(shapes),
-        Err(_) => Err(Fail::new("the shapes break a limit")),
-    }
+    Shapes::new(&SIZES, &FIELDS).map_err(|_| Fail::new("the shapes break a limit"))
 }
 
 pub fn node(constructor: u8, integers: [i64; 4]) -> Node {
@@ -86,68 +83,31 @@ pub fn bare(constructor: u8) -> Node {
 // What fills a buffer before a call, to be found again behind what the call writes.
 pub const OLD_BYTE: u8 = 0xa5;
 
-pub fn old_node() -> Node {
-    node(77, [7, -7, 77, -77])
-}
+pub const OLD_NODE: Node = Node {
+    constructor: 77,
+    integers: [7, -7, 77, -77],
+};
 
-fn same_node(a: &Node, b: &Node) -> bool {
-    a.constructor == b.constructor && a.integers == b.integers
-}
-
-// Whether these are the same nodes.
-pub fn same_nodes(a: &[Node], b: &[Node]) -> bool {
-    if a.len() != b.len() {
-        return false;
-    }
-    for (x, y) in a.iter().zip(b.iter()) {
-        if !same_node(x, y) {
-            return false;
-        }
-    }
-    true
-}
-
-// These bytes, and then so many old ones.
-pub fn bytes_then_old(heap: Global, front: &[u8], old: usize) -> Result<Vec<u8>, AllocError> {
+// These symbols, and then so many old ones.
+pub fn then_old<T: Copy>(
+    heap: Global,
+    front: &[T],
+    old: T,
+    count: usize,
+) -> Result<Vec<T>, AllocError> {
     let mut all = front.to_vec(heap)?;
-    for _ in 0..old {
-        all.push(OLD_BYTE)?;
-    }
-    Ok(all)
-}
-
-// These nodes, and then so many old ones.
-pub fn nodes_then_old(heap: Global, front: &[Node], old: usize) -> Result<Vec<Node>, AllocError> {
-    let mut all = front.to_vec(heap)?;
-    for _ in 0..old {
-        all.push(old_node())?;
-    }
+    all.resize(front.len().saturating_add(count), old)?;
     Ok(all)
 }
 
 // What an answer says: how many, or a refusal's number, layer and place.
-#[derive(Clone, Copy, PartialEq, Eq, Debug)]
-pub enum Answer {
-    Took { count: usize },
-    Refused { number: u8, layer: u8, place: usize },
-}
+pub type Answer = Result<usize, (u8, u8, usize)>;
 
 pub fn answer_of(res: Result<usize, Fault>) -> Answer {
-    match res {
-        Ok(count) => Answer::Took { count },
-        Err(fault) => Answer::Refused {
-            number: fault.number(),
-            layer: fault.layer,
-            place: fault.place,
-        },
-    }
+    res.map_err(|fault| (fault.number(), fault.layer, fault.place))
 }
 
 // A refusal of a call, which is of layer 4.
 pub fn refused(number: u8, place: usize) -> Answer {
-    Answer::Refused {
-        number,
-        layer: 4,
-        place,
-    }
+    Err((number, 4, place))
 }

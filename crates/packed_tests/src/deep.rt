@@ -1,5 +1,5 @@
 // A tree as deep as it has bytes.
-use crate::common::{Answer, CHAIN, answer_of, bytes_then_old, nodes_then_old, shapes};
+use crate::common::{CHAIN, OLD_BYTE, OLD_NODE, answer_of, shapes, then_old};
 use packed::{pack, unpack};
 use std::test::*;
 
@@ -14,12 +14,12 @@ fn each_head_inside_the_one_before(rt: HostRuntime) -> Result<(), Fail> {
     let shapes = shapes()?;
     let mut chain = vec![in rt.alloc(); LINK; HEADS - 1]?;
     chain.push(END)?;
-    let mut nodes = nodes_then_old(rt.alloc(), &[], HEADS)?;
+    let mut nodes = then_old(rt.alloc(), &[], OLD_NODE, HEADS)?;
     let unpacked = answer_of(unpack(&shapes, CHAIN, &chain, nodes.as_mut_slice()));
-    assert_eq!(rt; unpacked, Answer::Took { count: HEADS });
-    let mut again = bytes_then_old(rt.alloc(), &[], HEADS)?;
+    assert_eq!(rt; unpacked, Ok(HEADS));
+    let mut again = then_old(rt.alloc(), &[], OLD_BYTE, HEADS)?;
     let packed = answer_of(pack(&shapes, CHAIN, &nodes, again.as_mut_slice()));
-    assert_eq!(rt; packed, Answer::Took { count: HEADS });
+    assert_eq!(rt; packed, Ok(HEADS));
     assert!(rt; again == chain);
     Ok(())
 }

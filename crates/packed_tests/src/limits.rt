@@ -1,86 +1,68 @@
 // Each limit of a description of types, at the first place that breaks it.
-use crate::common::NONE;
+use crate::common::{LEAF, NONE};
 use packed::{Fields, Limit, Shapes};
 use std::test::*;
 
-#[derive(Clone, Copy, PartialEq, Eq, Debug)]
-enum Outcome {
-    Kept,
-    TypeCount,
-    TypeSize { of: usize },
-    ConstructorCount,
-    Constructor { number: usize },
+// The limit that a description breaks, if any.
+fn broken(sizes: &[u8], fields: &[Fields]) -> Option<Limit> {
+    Shapes::new(sizes, fields).err()
 }
-
-fn outcome_of(sizes: &[u8], fields: &[Fields]) -> Outcome {
-    match Shapes::new(sizes, fields) {
-        Ok(_) => Outcome::Kept,
-        Err(Limit::TypeCount) => Outcome::TypeCount,
-        Err(Limit::TypeSize { of }) => Outcome::TypeSize { of },
-        Err(Limit::ConstructorCount) => Outcome::ConstructorCount,
-        Err(Limit::Constructor { number }) => Outcome::Constructor { number },
-    }
-}
-
-const LEAF: Fields = Fields {
-    integers: 0,
-    subtrees: 0,
-    types: [NONE; 4],
-};
 
 #[derive(Clone, Copy)]
 struct Case<'a> {
     sizes: &'a [u8],
     fields: &'a [Fields],
-    outcome: Outcome,
+    broken: Option<Limit>,
 }
+
+// Each count at its limit, and one past it.
+const COUNTS: [Case<'static>; 8] = [
+    Case {
+        sizes: &[],
+        fields: &[],
+        broken: Some(Limit::TypeCount),
+    },
+    Case {
+        sizes: &[1; 17],
+        fields: &[LEAF; 17],
+        broken: Some(Limit::TypeCount),
+    },
+    Case {
+        sizes: &[1; 16],
+        fields: &[LEAF; 16],
+        broken: None,
+    },
+    Case {
+        sizes: &[1, 0],
+        fields: &[LEAF],
+        broken: Some(Limit::TypeSize { of: 1 }),
+    },
+    Case {
+        sizes: &[17],
+        fields: &[LEAF; 17],
+        broken: Some(Limit::TypeSize { of: 0 }),
+    },
+    Case {
+        sizes: &[2, 1],
+        fields: &[LEAF; 2],
+        broken: Some(Limit::ConstructorCount),
+    },
+    Case {
+        sizes: &[16; 5],
+        fields: &[LEAF; 80],
+        broken: Some(Limit::ConstructorCount),
+    },
+    Case {
+        sizes: &[16; 4],
+        fields: &[LEAF; 64],
+        broken: None,
+    },
+];
 
 #[test]
 fn counts(rt: HostRuntime) -> Result<(), Fail> {
-    let cases = [
-        Case {
-            sizes: &[],
-            fields: &[],
-            outcome: Outcome::TypeCount,
-        },
-        Case {
-            sizes: &[1; 17],
-            fields: &[LEAF; 17],
-            outcome: Outcome::TypeCount,
-        },
-        Case {
-            sizes: &[1; 16],
-            fields: &[LEAF; 16],
-            outcome: Outcome::Kept,
-        },
-        Case {
-            sizes: &[1, 0],
-            fields: &[LEAF],
-            outcome: Outcome::TypeSize { of: 1 },
-        },
-        Case {
-            sizes: &[17],
-            fields: &[LEAF; 17],
-            outcome: Outcome::TypeSize { of: 0 },
-        },
-        Case {
-            sizes: &[2, 1],
-            fields: &[LEAF; 2],
-            outcome: Outcome::ConstructorCount,
-        },
-        Case {
-            sizes: &[16; 5],
-            fields: &[LEAF; 80],
-            outcome: Outcome::ConstructorCount,
-        },
-        Case {
-            sizes: &[16; 4],
-            fields: &[LEAF; 64],
-            outcome: Outcome::Kept,
-        },
-    ];
-    for case in &cases {
-        assert_eq!(rt; outcome_of(case.sizes, case.fields), case.outcome);
+    for case in &COUNTS {
+        assert_eq!(rt; broken(case.sizes, case.fields), case.broken);
     }
     Ok(())
 }
@@ -113,8 +95,8 @@ fn fields(rt: HostRuntime) -> Result<(), Fail> {
     ];
     for one in &unfair {
         assert_eq!(rt;
-            outcome_of(&[2], &[LEAF, *one]),
-            Outcome::Constructor { number: 1 }
+            broken(&[2], &[LEAF, *one]),
+            Some(Limit::Constructor { number: 1 })
         );
     }
     let full = Fields {
@@ -122,6 +104,6 @@ fn fields(rt: HostRuntime) -> Result<(), Fail> {
         subtrees: 4,
         types: [0; 4],
     };
-    assert_eq!(rt; outcome_of(&[2], &[LEAF, full]), Outcome::Kept);
+    assert_eq!(rt; broken(&[2], &[LEAF, full]), None);
     Ok(())
 }

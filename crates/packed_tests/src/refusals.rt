@@ -1,49 +1,38 @@
 // What is refused, with which number and place, and that a refusal leaves the buffer.
 use crate::common::{
-    Answer, CHAIN, LIST, MARK, NO_TYPE, TREE, answer_of, bare, bytes_then_old, node,
-    nodes_then_old, refused, same_nodes, shapes,
+    Answer, CHAIN, LIST, MARK, NO_TYPE, OLD_BYTE, OLD_NODE, TREE, answer_of, bare, node, refused,
+    shapes, then_old,
 };
-use packed::{Node, Shapes, pack, unpack};
+use packed::{Fault, pack, unpack};
 use std::alloc::Global;
+use std::fmt::Debug;
 use std::process::Abort;
 use std::test::*;
 
-// Bytes that are refused as a tree of a type, with a buffer of so many nodes.
+// Bytes or nodes that are refused as a tree of a type, with a buffer for so many of the other.
 #[derive(Clone, Copy)]
-struct BadBytes<'a> {
+struct Bad<'a, S> {
     ty: u8,
-    bytes: &'a [u8],
+    word: &'a [S],
     room: usize,
     answer: Answer,
 }
 
-impl BadBytes<'_> {
-    fn test(&self, rt: &impl Abort, heap: Global, shapes: &Shapes) -> Result<(), Fail> {
-        let mut out = nodes_then_old(heap, &[], self.room)?;
-        let old = nodes_then_old(heap, &[], self.room)?;
-        let got = answer_of(unpack(shapes, self.ty, self.bytes, out.as_mut_slice()));
+impl<S> Bad<'_, S> {
+    fn test<T: Copy + PartialEq + Debug, C: FnOnce(&mut [T]) -> Result<usize, Fault>>(
+        &self,
+        rt: &impl Abort,
+        heap: Global,
+        old: T,
+        call: C,
+    ) -> Result<(), Fail>
+        requires { C.IsAlwaysCallable call }
+    {
+        let mut out = then_old(heap, &[], old, self.room)?;
+        let before = then_old(heap, &[], old, self.room)?;
+        let got = answer_of(call(out.as_mut_slice()));
         assert_eq!(rt; got, self.answer);
-        assert!(rt; same_nodes(&out, &old));
-        Ok(())
-    }
-}
-
-// The same for nodes, with a buffer of so many bytes.
-#[derive(Clone, Copy)]
-struct BadNodes<'a> {
-    ty: u8,
-    nodes: &'a [Node],
-    room: usize,
-    answer: Answer,
-}
-
-impl BadNodes<'_> {
-    fn test(&self, rt: &impl Abort, heap: Global, shapes: &Shapes) -> Result<(), Fail> {
-        let mut out = bytes_then_old(heap, &[], self.room)?;
-        let old = bytes_then_old(heap, &[], self.room)?;
-        let got = answer_of(pack(shapes, self.ty, self.nodes, out.as_mut_slice()));
-        assert_eq!(rt; got, self.answer);
-        assert_eq!(rt; out, old);
+        assert_eq!(rt; out, before);
         Ok(())
     }
 }
@@ -53,61 +42,63 @@ fn bad_bytes(rt: HostRuntime) -> Result<(), Fail> {
     let shapes = shapes()?;
     let cases = [
         // a type that there is not, before anything else is looked at
-        BadBytes {
+        Bad {
             ty: NO_TYPE,
-            bytes: &[200],
+            word: &[200],
             room: 0,
             answer: refused(32, 0),
         },
         // a tag that no constructor has, and one of another type
-        BadBytes {
+        Bad {
             ty: CHAIN,
-            bytes: &[8, 8, 9],
+            word: &[8, 8, 9],
             room: 4,
             answer: refused(43, 2),
         },
-        BadBytes {
+        Bad {
             ty: CHAIN,
-            bytes: &[8, 4],
+            word: &[8, 4],
             room: 4,
             answer: refused(43, 1),
         },
         // too short: nothing at all, a missing subtree, and within an integer
-        BadBytes {
+        Bad {
             ty: LIST,
-            bytes: &[],
+            word: &[],
             room: 4,
             answer: refused(43, 0),
         },
-        BadBytes {
+        Bad {
             ty: CHAIN,
-            bytes: &[8, 8],
+            word: &[8, 8],
             room: 4,
             answer: refused(43, 2),
         },
-        BadBytes {
+        Bad {
             ty: MARK,
-            bytes: &[2, 0, 0, 0, 0, 0, 0, 0],
+            word: &[2, 0, 0, 0, 0, 0, 0, 0],
             room: 4,
             answer: refused(43, 8),
         },
         // too long, by a byte that might begin a tree
-        BadBytes {
+        Bad {
             ty: LIST,
-            bytes: &[0, 0],
+            word: &[0, 0],
             room: 4,
             answer: refused(43, 1),
         },
         // a buffer one node too short
-        BadBytes {
+        Bad {
             ty: CHAIN,
-            bytes: &[8, 8, 7],
+            word: &[8, 8, 7],
             room: 2,
             answer: refused(53, 0),
         },
     ];
     for case in &cases {
-        case.test(&rt, rt.alloc(), &shapes)?;
+        case.test(&rt, rt.alloc(), OLD_NODE, |out| {
+            unpack(&shapes, case.ty, case.word, out)
+        })?;
     }
     Ok(())
 }
@@ -116,64 +107,66 @@ fn bad_bytes(rt: HostRuntime) -> Result<(), Fail> {
 fn bad_nodes(rt: HostRuntime) -> Result<(), Fail> {
     let shapes = shapes()?;
     let cases = [
-        BadNodes {
+        Bad {
             ty: NO_TYPE,
-            nodes: &[],
+            word: &[],
             room: 0,
             answer: refused(32, 0),
         },
-        BadNodes {
+        Bad {
             ty: TREE,
-            nodes: &[bare(6), bare(4), bare(64)],
+            word: &[bare(6), bare(4), bare(64)],
             room: 40,
             answer: refused(43, 2),
         },
-        BadNodes {
+        Bad {
             ty: TREE,
-            nodes: &[bare(6), bare(2)],
+            word: &[bare(6), bare(2)],
             room: 40,
             answer: refused(43, 1),
         },
         // an integer behind those that the constructor has
-        BadNodes {
+        Bad {
             ty: MARK,
-            nodes: &[node(2, [5, 0, 0, 1])],
+            word: &[node(2, [5, 0, 0, 1])],
             room: 40,
             answer: refused(43, 0),
         },
-        BadNodes {
+        Bad {
             ty: CHAIN,
-            nodes: &[bare(8), node(7, [1, 0, 0, 0])],
+            word: &[bare(8), node(7, [1, 0, 0, 0])],
             room: 40,
             answer: refused(43, 1),
         },
-        BadNodes {
+        Bad {
             ty: LIST,
-            nodes: &[],
+            word: &[],
             room: 40,
             answer: refused(43, 0),
         },
-        BadNodes {
+        Bad {
             ty: LIST,
-            nodes: &[bare(1), node(2, [1, 0, 0, 0])],
+            word: &[bare(1), node(2, [1, 0, 0, 0])],
             room: 40,
             answer: refused(43, 2),
         },
-        BadNodes {
+        Bad {
             ty: LIST,
-            nodes: &[bare(0), bare(0)],
+            word: &[bare(0), bare(0)],
             room: 40,
             answer: refused(43, 1),
         },
-        BadNodes {
+        Bad {
             ty: MARK,
-            nodes: &[node(2, [5, 0, 0, 0])],
+            word: &[node(2, [5, 0, 0, 0])],
             room: 8,
             answer: refused(53, 0),
         },
     ];
     for case in &cases {
-        case.test(&rt, rt.alloc(), &shapes)?;
+        case.test(&rt, rt.alloc(), OLD_BYTE, |out| {
+            pack(&shapes, case.ty, case.word, out)
+        })?;
     }
     Ok(())
 }

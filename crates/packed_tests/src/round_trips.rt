@@ -1,10 +1,10 @@
 // Trees packed and unpacked, and what stands behind them in the buffers.
 use crate::common::{
-    Answer, CHAIN, LIST, MARK, TREE, answer_of, bare, bytes_then_old, node, nodes_then_old,
-    same_nodes, shapes,
+    CHAIN, LIST, MARK, OLD_BYTE, OLD_NODE, TREE, answer_of, bare, node, shapes, then_old,
 };
-use packed::{Node, Shapes, pack, unpack};
+use packed::{Fault, Node, Shapes, pack, unpack};
 use std::alloc::Global;
+use std::fmt::Debug;
 use std::process::Abort;
 use std::test::*;
 
@@ -19,37 +19,31 @@ struct Pair<'a> {
     bytes: &'a [u8],
 }
 
-fn packs(rt: &impl Abort, heap: Global, shapes: &Shapes, pair: &Pair) -> Result<(), Fail> {
-    let mut out = bytes_then_old(heap, &[], pair.bytes.len().saturating_add(SPARE))?;
-    let wanted = bytes_then_old(heap, pair.bytes, SPARE)?;
-    let got = answer_of(pack(shapes, pair.ty, pair.nodes, out.as_mut_slice()));
-    assert_eq!(rt;
-        got,
-        Answer::Took {
-            count: pair.bytes.len(),
-        }
-    );
+// That a call writes this word at a buffer's front, and leaves what is behind it.
+fn writes<T: Copy + PartialEq + Debug, C: FnOnce(&mut [T]) -> Result<usize, Fault>>(
+    rt: &impl Abort,
+    heap: Global,
+    word: &[T],
+    old: T,
+    call: C,
+) -> Result<(), Fail>
+    requires { C.IsAlwaysCallable call }
+{
+    let mut out = then_old(heap, &[], old, word.len().saturating_add(SPARE))?;
+    let wanted = then_old(heap, word, old, SPARE)?;
+    let got = answer_of(call(out.as_mut_slice()));
+    assert_eq!(rt; got, Ok(word.len()));
     assert_eq!(rt; out, wanted);
     Ok(())
 }
 
-fn unpacks(rt: &impl Abort, heap: Global, shapes: &Shapes, pair: &Pair) -> Result<(), Fail> {
-    let mut out = nodes_then_old(heap, &[], pair.nodes.len().saturating_add(SPARE))?;
-    let wanted = nodes_then_old(heap, pair.nodes, SPARE)?;
-    let got = answer_of(unpack(shapes, pair.ty, pair.bytes, out.as_mut_slice()));
-    assert_eq!(rt;
-        got,
-        Answer::Took {
-            count: pair.nodes.len(),
-        }
-    );
-    assert!(rt; same_nodes(&out, &wanted));
-    Ok(())
-}
-
 fn goes_round(rt: &impl Abort, heap: Global, shapes: &Shapes, pair: Pair) -> Result<(), Fail> {
-    packs(rt, heap, shapes, &pair)?;
-    unpacks(rt, heap, shapes, &pair)
+    writes(rt, heap, pair.bytes, OLD_BYTE, |out| {
+        pack(shapes, pair.ty, pair.nodes, out)
+    })?;
+    writes(rt, heap, pair.nodes, OLD_NODE, |out| {
+        unpack(shapes, pair.ty, pair.bytes, out)
+    })
 }
 
 #[test]

@@ -1,5 +1,1 @@
-mod Grown
-mod Walked
 mod Told
-mod Filled
-mod Counted

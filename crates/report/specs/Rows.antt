@@ -1,5 +1,5 @@
 -- The rows that nodes and folders have.
-use Rattle.std.specs.Prelude.{ℕ, ◌+◌, cond, List, [], ◌∷◌, ◌++◌, map, pos, Some, None, vec_items, Option}
+use Rattle.std.specs.Prelude.{ℕ, count_by, List, [], ◌∷◌, ◌++◌, map, pos, Some, None, vec_items, Option}
 use Rattle.packed.specs.declared.node.Node.{Node}
 use Rattle.report.specs.declared.office.Deleted.{Deleted}
 use Rattle.report.specs.declared.office.Folder.{Folder}
@@ -49,5 +49,4 @@ rows_of (f ∷ fs) = map (row_of f.id) (vec_items f.entries) ++ rows_of fs
 
 -- how many rows are of entries that can be brought back
 abbrev pub kept_in : List Row → ℕ
-kept_in [] = 0
-kept_in (row ∷ rows) = cond (is_kept row.age) 1 0 + kept_in rows
+kept_in = count_by (λ row. is_kept row.age)

@@ -15,7 +15,7 @@ pub enum Age {
 }
 
 impl Age {
-    // The age of an entry that was deleted `ago` days ago.
+    // The age of an entry that was deleted `ago` days ago. No From: a number alone does not say which days it counts.
     pub fn of(ago: u16) -> Age
         ensures value { result ≡ age_of ago }
     {
@@ -35,9 +35,6 @@ impl Age {
     pub fn is_kept(&self) -> bool
         ensures value { result ≡ is_kept self.now }
     {
-        match self {
-            Age::Kept { .. } => true,
-            Age::Gone { .. } => false,
-        }
+        matches!(self, Age::Kept { .. })
     }
 }

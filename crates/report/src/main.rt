@@ -11,16 +11,15 @@ mod report;
 mod row;
 mod rows;
 mod show;
-mod trouble;
 
-use forms::{FOLDERS, NO_TYPE, list_shapes};
+use forms::{NO_TYPE, list_shapes};
 use office::{Folder, sample};
 use packed::Shapes;
 use report::{Report, refusal, report_on};
+use reporting::{FOLDERS, Verdict};
 use rows::kept_count;
-use show::Refusal;
+use show::{ReportWords, Trouble};
 use std::process::ExitCode;
-use trouble::Trouble;
 
 // Prints what was done, and what became of each entry.
 fn print_report(rt: &HostRuntime, folders: &[Folder], report: &Report) -> Result<(), Trouble> {
@@ -40,7 +39,7 @@ fn print_report(rt: &HostRuntime, folders: &[Folder], report: &Report) -> Result
     Ok(())
 }
 
-// Prints why bytes are refused as a tree of this type.
+// Prints whether bytes are refused as a tree of this type, and why.
 fn print_refusal(
     rt: &HostRuntime,
     shapes: &Shapes,
@@ -48,19 +47,15 @@ fn print_refusal(
     ty: u8,
     bytes: &[u8],
 ) -> Result<(), Trouble> {
-    match refusal(rt.alloc(), shapes, ty, bytes)? {
-        Some(fault) => {
-            let refused = Refusal { tried, fault };
-            println!(rt; "{refused}")?;
-        }
-        None => println!(rt; "{tried}: accepted")?,
-    }
+    let fault = refusal(rt.alloc(), shapes, ty, bytes)?;
+    let verdict = Verdict::<ReportWords>::new(tried, fault);
+    println!(rt; "{verdict}")?;
     Ok(())
 }
 
 // Prints what becomes of the list's bytes when they are damaged or taken for something else.
 fn print_refusals(rt: &HostRuntime, shapes: &Shapes, bytes: &[u8]) -> Result<(), Trouble> {
-    let cut = &bytes[0..bytes.len().saturating_sub(1)];
+    let cut = &bytes[..bytes.len().saturating_sub(1)];
     print_refusal(rt, shapes, "cut by one byte", FOLDERS, cut)?;
     let mut longer = bytes.to_vec(rt.alloc())?;
     longer.push(0)?;

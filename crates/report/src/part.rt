@@ -4,19 +4,7 @@ ghost use Rattle.report.specs.Parts.{node_for, part_in};
 
 use crate::age::Age;
 use packed::Node;
-
-// The constructors' numbers.
-const NO_FOLDER: u8 = 0;
-
-const FOLDER: u8 = 1;
-
-const NO_ENTRY: u8 = 2;
-
-const ENTRY: u8 = 3;
-
-const KEPT: u8 = 4;
-
-const GONE: u8 = 5;
+use reporting::{ENTRY, FOLDER, GONE, KEPT, NO_ENTRY, NO_FOLDER};
 
 // One node without its subtrees.
 #[derive(Clone, Copy)]
@@ -33,12 +21,12 @@ pub enum Part {
     Age { age: Age },
 }
 
-impl Part {
-    // The node that stands for this part.
-    pub fn node(self) -> Node
-        ensures value { result ≡ node_for self }
-    {
-        let (constructor, first, second) = match self {
+// The node that stands for a part.
+impl From<Part> for Node {
+    ghost from_gives = { λ part node. node ≡ node_for part };
+
+    fn from(part: Part) -> Node {
+        let (constructor, first, second) = match part {
             Part::NoFolder => (NO_FOLDER, 0, 0),
             Part::Folder { id } => (FOLDER, id, 0),
             Part::NoEntry => (NO_ENTRY, 0, 0),
@@ -55,8 +43,11 @@ impl Part {
             integers: [first, second, 0, 0],
         }
     }
+}
 
-    // The part that a node stands for, if its constructor is one of the list's.
+impl Part {
+    // The part that a node stands for, if its constructor is one of the list's. No TryFrom: a node that is no part is passed
+    // over, so nobody would read its error.
     pub fn of(node: &Node) -> Option<Part>
         ensures value { result ≡ part_in node.now }
     {

@@ -6,13 +6,13 @@ ghost use Rattle.report.specs.Laid.{folder_nodes};
 ghost use Rattle.report.specs.Rows.{rows_of};
 ghost use Rattle.report.specs.Refusing.{fault_of};
 
-use crate::forms::FOLDERS;
 use crate::laying::laid;
 use crate::office::Folder;
 use crate::row::Row;
 use crate::rows::rows;
-use crate::trouble::Trouble;
+use crate::show::Trouble;
 use packed::{Fault, Node, Shapes, pack, unpack};
+use reporting::FOLDERS;
 use std::alloc::{AllocError, Global};
 
 // The most bytes that a node takes: its tag and four integers.
@@ -44,7 +44,8 @@ fn packed_list(heap: Global, shapes: &Shapes, nodes: &[Node]) -> Result<Vec<u8>,
     Ok(bytes)
 }
 
-// The nodes of a list of folders. Each takes at least a byte.
+// The nodes of a list of folders. Each takes at least a byte. (Apart from the packing above: a function for both would be given the
+// blank, the length and the call, and be no shorter.)
 fn unpacked_list(heap: Global, shapes: &Shapes, bytes: &[u8]) -> Result<Vec<Node>, Trouble>
     ensures value { IfOk result (λ v. v.items ≡ nodes_of (forms_of shapes.now) 0 bytes.now) }
 {
@@ -81,8 +82,5 @@ pub fn refusal(
     ensures value { IfOk result (λ o. o ≡ fault_of (unpack_of (forms_of shapes.now) shapes.now.types ty bytes.now (length bytes.now))) }
 {
     let mut nodes = vec![in heap; BLANK; bytes.len()]?;
-    match unpack(shapes, ty, bytes, nodes.as_mut_slice()) {
-        Ok(_) => Ok(None),
-        Err(fault) => Ok(Some(fault)),
-    }
+    Ok(unpack(shapes, ty, bytes, nodes.as_mut_slice()).err())
 }

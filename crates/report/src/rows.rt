@@ -1,20 +1,18 @@
 // What a list of deleted entries says, entry by entry, read from its nodes.
 ghost use Rattle.std.specs.Prelude.{◌≡◌, ◌≤◌, length, IfOk};
-ghost use Rattle.report.specs.Parts.{part_in};
 ghost use Rattle.report.specs.Rows.{row_at, place_after, rows_in, nowhere, kept_in};
 
-use crate::age::Age;
 use crate::part::Part;
 use crate::row::{Place, Row};
 use packed::Node;
 use std::alloc::{AllocError, Global};
 
 impl Place {
-    // The row that a node completes: only an age does.
-    fn row(&self, node: &Node) -> Option<Row>
-        ensures value { result ≡ row_at self.now (part_in node.now) }
+    // The row that a part completes: only an age does.
+    fn row(self, part: Option<Part>) -> Option<Row>
+        ensures value { result ≡ row_at self part }
     {
-        match Part::of(node) {
+        match part {
             Some(Part::Age { age }) => Some(Row {
                 folder: self.folder,
                 entry: self.entry,
@@ -24,20 +22,14 @@ impl Place {
         }
     }
 
-    // The place behind a node.
-    fn after(&self, node: &Node) -> Place
-        ensures value { result ≡ place_after self.now (part_in node.now) }
+    // The place behind a part.
+    fn after(self, part: Option<Part>) -> Place
+        ensures value { result ≡ place_after self part }
     {
-        match Part::of(node) {
-            Some(Part::Folder { id }) => Place {
-                folder: id,
-                entry: self.entry,
-            },
-            Some(Part::Entry { id }) => Place {
-                folder: self.folder,
-                entry: id,
-            },
-            _ => *self,
+        match part {
+            Some(Part::Folder { id }) => Place { folder: id, ..self },
+            Some(Part::Entry { id }) => Place { entry: id, ..self },
+            _ => self,
         }
     }
 }
@@ -52,10 +44,11 @@ pub fn rows(heap: Global, nodes: &[Node]) -> Result<Vec<Row>, AllocError>
         entry: 0,
     };
     for node in nodes {
-        if let Some(row) = place.row(node) {
+        let part = Part::of(node);
+        if let Some(row) = place.row(part) {
             rows.push(row)?;
         }
-        place = place.after(node);
+        place = place.after(part);
     }
     Ok(rows)
 }
@@ -65,11 +58,5 @@ pub fn kept_count(rows: &[Row]) -> usize
     ensures value { result ≡ kept_in rows.now }
     ensures bound { result ≤ length rows.now }
 {
-    let mut count = 0;
-    for row in rows {
-        if row.age.is_kept() {
-            count += 1;
-        }
-    }
-    count
+    rows.iter().filter(|row| row.age.is_kept()).count()
 }

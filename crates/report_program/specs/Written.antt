@@ -1,15 +1,10 @@
 -- The program that is written in the source, and what is told of its rows.
 use Rattle.std.specs.Prelude.{ℕ, cond, List, [], ◌∷◌, length, nat_lt, slice_index}
 use Rattle.packed.specs.declared.constructor.Fields.{Fields}
+use Rattle.reporting.specs.Listed.{fields, end_fields, folder_fields, entry_fields, kept_fields, gone_fields}
 use Rattle.table.specs.declared.function.Function.{Function}
 use Rattle.table.specs.declared.row.Row.{Row}
 use Rattle.table.specs.declared.row.Row.TheVariants as row
-
-abbrev pub no_types : List ℕ
-no_types = 255 ∷ 255 ∷ 255 ∷ 255 ∷ []
-
-abbrev pub fields : ℕ → ℕ → List ℕ → Fields
-fields k n ts = record { integers = k; subtrees = n; types = ts }
 
 -- The program's types: those of the list, a list of lines, and the report.
 abbrev pub program_sizes : List ℕ
@@ -18,13 +13,13 @@ program_sizes = 2 ∷ 2 ∷ 2 ∷ 2 ∷ 1 ∷ []
 -- their constructors: those of the list; the end of lines, and a line; the report
 abbrev pub program_fields : List Fields
 program_fields =
-    fields 0 0 no_types
-    ∷ fields 1 2 (1 ∷ 0 ∷ 255 ∷ 255 ∷ [])
-    ∷ fields 0 0 no_types
-    ∷ fields 1 2 (2 ∷ 1 ∷ 255 ∷ 255 ∷ [])
-    ∷ fields 2 0 no_types
-    ∷ fields 1 0 no_types
-    ∷ fields 0 0 no_types
+    end_fields
+    ∷ folder_fields
+    ∷ end_fields
+    ∷ entry_fields
+    ∷ kept_fields
+    ∷ gone_fields
+    ∷ end_fields
     ∷ fields 2 1 (3 ∷ 255 ∷ 255 ∷ 255 ∷ [])
     ∷ fields 1 2 (3 ∷ 3 ∷ 255 ∷ 255 ∷ [])
     ∷ []

@@ -8,9 +8,8 @@ pub fn with_byte(heap: Global, bytes: &[u8], at: usize, byte: u8) -> Result<Vec<
     ensures value { IfOk result (λ v. v.items ≡ slice_set bytes.now at byte) }
 {
     let mut copy = bytes.to_vec(heap)?;
-    if at >= copy.len() {
-        return Ok(copy);
+    if let Some(place) = copy.get_mut(at) {
+        *place = byte;
     }
-    copy[at] = byte;
     Ok(copy)
 }

@@ -3,170 +3,157 @@ ghost use Rattle.std.specs.Prelude.{◌≡◌};
 ghost use Rattle.report_program.specs.Written.{names_of};
 
 use packed::Constructor;
+use reporting::{INTEGER, Many, NONE};
 use std::fmt;
+use std::marker::PhantomData;
 use table::{Function, Row};
 
-// An integer's kind, and what stands where nothing is.
-const INTEGER: u8 = 254;
-
-const NONE: u8 = 255;
-
-// A number of things with their noun.
+// A number of things with their noun, which may be none.
 #[derive(Clone, Copy)]
-struct Many<'a> {
-    count: usize,
-    noun: &'a str,
-}
+struct ManyOrNo<'a>(Many<'a>);
 
-impl<'a> fmt::Display for Many<'a> {
+impl<'a> fmt::Display for ManyOrNo<'a> {
     fn fmt<W: fmt::Write>(&self, f: &mut fmt::Formatter<W>) -> fmt::Result {
-        let count = self.count;
-        let noun = self.noun;
-        match count {
+        let many = self.0;
+        let noun = many.noun;
+        match many.count {
             0 => write!(f, "no {noun}"),
-            1 => write!(f, "1 {noun}"),
-            _ => write!(f, "{count} {noun}s"),
+            _ => write!(f, "{many}"),
         }
     }
 }
 
-// A kind of value.
+// So many integers.
+fn integers(count: u8) -> ManyOrNo<'static> {
+    ManyOrNo(Many {
+        count: i64::from(count),
+        noun: "integer",
+    })
+}
+
+// A kind of value, by its number.
 #[derive(Clone, Copy)]
-struct Kind {
-    number: u8,
+struct Kind(u8);
+
+impl From<u8> for Kind {
+    fn from(number: u8) -> Kind {
+        Kind(number)
+    }
 }
 
 impl fmt::Display for Kind {
     fn fmt<W: fmt::Write>(&self, f: &mut fmt::Formatter<W>) -> fmt::Result {
-        let number = self.number;
-        if number == INTEGER {
-            write!(f, "an integer")
-        } else {
-            write!(f, "type {number}")
+        match self.0 {
+            INTEGER => write!(f, "an integer"),
+            number => write!(f, "type {number}"),
         }
     }
 }
 
-// Kinds, up to the first that is none.
+// A variable, by its number.
 #[derive(Clone, Copy)]
-struct Kinds {
-    numbers: [u8; 4],
+struct Variable(u8);
+
+impl From<u8> for Variable {
+    fn from(number: u8) -> Variable {
+        Variable(number)
+    }
 }
 
-impl fmt::Display for Kinds {
+impl fmt::Display for Variable {
     fn fmt<W: fmt::Write>(&self, f: &mut fmt::Formatter<W>) -> fmt::Result {
-        for (i, number) in self.numbers.iter().enumerate() {
+        let number = self.0;
+        write!(f, "variable {number}")
+    }
+}
+
+// Numbers up to the first that is none, each shown as a T, with a word before the first.
+#[derive(Clone, Copy)]
+struct Series<T, const N: usize> {
+    first: &'static str,
+    numbers: [u8; N],
+    shown_as: PhantomData<T>,
+}
+
+impl<T: fmt::Display + From<u8> + Drop, const N: usize> fmt::Display for Series<T, N> {
+    fn fmt<W: fmt::Write>(&self, f: &mut fmt::Formatter<W>) -> fmt::Result {
+        let mut before = self.first;
+        // No take_while: in a loop over it, it is not proved that the bytes of `before` are UTF-8.
+        for number in &self.numbers {
             if *number == NONE {
-                return Ok(());
+                break;
             }
-            let before = if i == 0 { "" } else { ", " };
-            let kind = Kind { number: *number };
-            write!(f, "{before}{kind}")?;
+            let shown = T::from(*number);
+            write!(f, "{before}{shown}")?;
+            before = ", ";
         }
         Ok(())
     }
 }
 
-// Variables, up to the first that is none.
-#[derive(Clone, Copy)]
-struct Variables {
-    names: [u8; 8],
-}
-
-impl fmt::Display for Variables {
-    fn fmt<W: fmt::Write>(&self, f: &mut fmt::Formatter<W>) -> fmt::Result {
-        for (i, name) in self.names.iter().enumerate() {
-            if *name == NONE {
-                return Ok(());
-            }
-            let before = if i == 0 { " of " } else { ", " };
-            write!(f, "{before}variable {name}")?;
-        }
-        Ok(())
+fn kinds(numbers: [u8; 4]) -> Series<Kind, 4> {
+    Series {
+        first: "",
+        numbers,
+        shown_as: PhantomData,
     }
 }
 
-// A type, a constructor, a function or a row, with its number.
+// How many constructors a type has.
 #[derive(Clone, Copy)]
-pub struct ListedType {
+pub struct Size(pub u8);
+
+// A type's size, a constructor, a function or a row, with its number.
+#[derive(Clone, Copy)]
+pub struct Listed<T> {
     pub number: usize,
-    pub size: u8,
+    pub item: T,
 }
 
-#[derive(Clone, Copy)]
-pub struct ListedConstructor {
-    pub number: u8,
-    pub constructor: Constructor,
-}
-
-#[derive(Clone, Copy)]
-pub struct ListedFunction {
-    pub number: usize,
-    pub function: Function,
-}
-
-#[derive(Clone, Copy)]
-pub struct ListedRow {
-    pub number: usize,
-    pub row: Row,
-}
-
-impl fmt::Display for ListedType {
+impl fmt::Display for Listed<Size> {
     fn fmt<W: fmt::Write>(&self, f: &mut fmt::Formatter<W>) -> fmt::Result {
         let number = self.number;
-        let forms = Many {
-            count: self.size as usize,
+        let forms = ManyOrNo(Many {
+            count: i64::from(self.item.0),
             noun: "constructor",
-        };
+        });
         write!(f, "type {number}: {forms}")
     }
 }
 
-impl fmt::Display for ListedConstructor {
+impl fmt::Display for Listed<Constructor> {
     fn fmt<W: fmt::Write>(&self, f: &mut fmt::Formatter<W>) -> fmt::Result {
         let number = self.number;
-        let of = self.constructor.of;
-        let fields = self.constructor.fields;
-        let integers = Many {
-            count: fields.integers as usize,
-            noun: "integer",
-        };
+        let Constructor { of, fields } = self.item;
+        let integers = integers(fields.integers);
         write!(f, "constructor {number}, of type {of}: {integers}")?;
         if fields.subtrees == 0 {
             return write!(f, ", no subtree");
         }
-        let numbers = fields.types;
-        let kinds = Kinds { numbers };
+        let kinds = kinds(fields.types);
         write!(f, ", subtrees of {kinds}")
     }
 }
 
-impl fmt::Display for ListedFunction {
+impl fmt::Display for Listed<Function> {
     fn fmt<W: fmt::Write>(&self, f: &mut fmt::Formatter<W>) -> fmt::Result {
         let number = self.number;
-        let takes = Kinds {
-            numbers: self.function.kinds,
-        };
-        let gives = Kind {
-            number: self.function.result,
-        };
-        let first = self.function.first;
-        if self.function.parameters == 0 {
-            write!(f, "function {number}: gives {gives}, from row {first} on")
-        } else {
-            write!(
-                f,
-                "function {number}: takes {takes}, gives {gives}, from row {first} on"
-            )
+        write!(f, "function {number}: ")?;
+        if self.item.parameters != 0 {
+            let takes = kinds(self.item.kinds);
+            write!(f, "takes {takes}, ")?;
         }
+        let gives = Kind(self.item.result);
+        let first = self.item.first;
+        write!(f, "gives {gives}, from row {first} on")
     }
 }
 
 // The variables that a row uses in order: those of a construct or of a call.
-fn used_by(row: Row) -> Variables
-    ensures value { result.names ≡ names_of row }
+fn used_by(row: Row) -> Series<Variable, 8>
+    ensures value { result.numbers ≡ names_of row }
 {
-    let names = match row {
+    let numbers = match row {
         Row::Construct {
             v0,
             v1,
@@ -181,7 +168,11 @@ fn used_by(row: Row) -> Variables
         Row::Call { v0, v1, v2, v3, .. } => [v0, v1, v2, v3, NONE, NONE, NONE, NONE],
         _ => [NONE; 8],
     };
-    Variables { names }
+    Series {
+        first: " of ",
+        numbers,
+        shown_as: PhantomData,
+    }
 }
 
 // A row that opens a region or names a location.
@@ -190,10 +181,7 @@ fn write_naming<W: fmt::Write>(row: Row, f: &mut fmt::Formatter<W>) -> fmt::Resu
         Row::Region { r, room } => write!(f, "opens region {r} with {room} cells"),
         Row::Start { l, r } => write!(f, "location {l} is the start of region {r}"),
         Row::Past { l, m, k } => {
-            let integers = Many {
-                count: k as usize,
-                noun: "integer",
-            };
+            let integers = integers(k);
             write!(
                 f,
                 "location {l} is past a head with {integers} at location {m}"
@@ -210,10 +198,11 @@ fn write_naming<W: fmt::Write>(row: Row, f: &mut fmt::Formatter<W>) -> fmt::Resu
 }
 
 // A row that has a location or another row in one form, and none in another.
+// (NONE, and 0 for no row, as the row has them.)
 fn write_choosing<W: fmt::Write>(row: Row, f: &mut fmt::Formatter<W>) -> fmt::Result {
     match row {
         Row::Let { x, kind, l, body } => {
-            let bound = Kind { number: kind };
+            let bound = Kind(kind);
             if kind == INTEGER {
                 write!(f, "binds variable {x} to {bound}, then row {body}")
             } else {
@@ -246,10 +235,10 @@ fn write_choosing<W: fmt::Write>(row: Row, f: &mut fmt::Formatter<W>) -> fmt::Re
     }
 }
 
-impl fmt::Display for ListedRow {
+impl fmt::Display for Listed<Row> {
     fn fmt<W: fmt::Write>(&self, f: &mut fmt::Formatter<W>) -> fmt::Result {
         let number = self.number;
-        let row = self.row;
+        let row = self.item;
         write!(f, "row {number}: ")?;
         match row {
             Row::Variable { x } => write!(f, "gives variable {x}"),

@@ -3,21 +3,19 @@
 #![tactic(auto)]
 
 mod damage;
-mod forms;
 mod listing;
 mod program;
 mod show;
 mod stored;
 mod storing;
 mod telling;
-mod trouble;
 
 use program::{program_bytes, program_rows};
+use show::Trouble;
 use std::process::ExitCode;
 use stored::Stored;
-use storing::{stored_flat, stored_paged};
+use storing::{Layout, stored_as};
 use telling::print_program;
-use trouble::Trouble;
 
 // How many cells each store has that the table is put into.
 const STORE_CELLS: usize = 2000;
@@ -36,9 +34,9 @@ fn print_stored(rt: &HostRuntime, name: &str, stored: &Stored) -> Result<(), Tro
 
 // Prints what a flat and a paged store make of the bytes.
 fn print_stores(rt: &HostRuntime, bytes: &[u8]) -> Result<(), Trouble> {
-    let flat = stored_flat(rt.alloc(), STORE_CELLS, bytes)?;
+    let flat = stored_as(rt.alloc(), Layout::Flat, STORE_CELLS, bytes)?;
     print_stored(rt, "flat", &flat)?;
-    let paged = stored_paged(rt.alloc(), STORE_CELLS, bytes)?;
+    let paged = stored_as(rt.alloc(), Layout::Paged, STORE_CELLS, bytes)?;
     print_stored(rt, "paged", &paged)?;
     if flat.back == paged.back {
         println!(rt; "both stores gave back the same bytes")?;

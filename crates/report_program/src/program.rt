@@ -5,12 +5,12 @@ ghost use Rattle.table.specs.declared.row.Row.TheVariants as row;
 ghost use Rattle.table.specs.Writing.{ReadsBack};
 ghost use Rattle.report_program.specs.Written.{operand, program_sizes, program_fields, program_functions};
 
-use crate::forms::{
-    END, ENTRIES, ENTRY, ENTRY_FIELDS, FOLDER, FOLDER_FIELDS, FOLDERS, GONE, GONE_FIELDS, KEPT,
-    KEPT_FIELDS, NO_ENTRY, NO_FOLDER, NONE,
-};
-use crate::trouble::Trouble;
+use crate::show::Trouble;
 use packed::Fields;
+use reporting::{
+    END, ENTRIES, ENTRY, ENTRY_FIELDS, FOLDER, FOLDER_FIELDS, FOLDERS, GONE, GONE_FIELDS, INTEGER,
+    KEPT, KEPT_FIELDS, NO_ENTRY, NO_FOLDER, NONE,
+};
 use std::alloc::{AllocError, Global};
 use table::{Function, Row, write};
 
@@ -27,12 +27,9 @@ const LINE: u8 = 7;
 const WHOLE: u8 = 8;
 
 // The bytes of a row, and of all that stands before the rows.
-const ROW_BYTES: usize = 16;
+pub const ROW_BYTES: usize = 16;
 
 const OTHER_BYTES: usize = 108;
-
-// An integer's kind.
-const INTEGER: u8 = 254;
 
 // How many constructors each type has.
 const SIZES: [u8; 5] = [2, 2, 2, 2, 1];
@@ -107,48 +104,13 @@ const FUNCTIONS: [Function; 5] = [
     },
 ];
 
-// Rows by their operands.
+// The rows whose operands would take a line each, by their operands.
 
 // The operand at i, or none behind the last.
 fn operand_at(names: &[u8], i: usize) -> u8
     ensures value { result ≡ operand names.now i }
 {
-    if i < names.len() { names[i] } else { NONE }
-}
-
-// Gives the variable.
-fn variable(x: u8) -> Row
-    ensures value { result ≡ row.Variable x }
-{
-    Row::Variable { x }
-}
-
-// Gives the number.
-fn number(value: i64) -> Row
-    ensures value { result ≡ row.Number value }
-{
-    Row::Number { value }
-}
-
-// Gives the sum of two variables.
-fn sum(x: u8, y: u8) -> Row
-    ensures value { result ≡ row.Sum x y }
-{
-    Row::Sum { x, y }
-}
-
-// Location l lies behind a head with k integers at m.
-fn past(l: u8, m: u8, k: u8) -> Row
-    ensures value { result ≡ row.Past l m k }
-{
-    Row::Past { l, m, k }
-}
-
-// Location l is the end of the tree of type t at m.
-fn after(l: u8, m: u8, t: u8) -> Row
-    ensures value { result ≡ row.After l m t }
-{
-    Row::After { l, m, t }
+    names.get(i).copied().unwrap_or(NONE)
 }
 
 // A tree at l, from these variables, integers first.
@@ -188,13 +150,6 @@ fn tree_let(x: u8, kind: u8, l: u8, body: u16) -> Row
     Row::Let { x, kind, l, body }
 }
 
-// Goes on where x is at most y, else from row `other` on.
-fn test(x: u8, y: u8, other: u16) -> Row
-    ensures value { result ≡ row.Test x y other }
-{
-    Row::Test { x, y, other }
-}
-
 // Function f of these variables; a tree goes to l.
 fn call(f: u8, l: u8, names: &[u8]) -> Row
     ensures value { result ≡ row.Call f l (operand names.now 0) (operand names.now 1) (operand names.now 2) (operand names.now 3) }
@@ -209,13 +164,6 @@ fn call(f: u8, l: u8, names: &[u8]) -> Row
     }
 }
 
-// Takes the variable apart.
-fn case(x: u8) -> Row
-    ensures value { result ≡ row.Case x }
-{
-    Row::Case { x }
-}
-
 // For a tree of this constructor; the next branch is row `next`.
 fn branch(form: u8, x0: u8, l0: u8, next: u16) -> Row
     ensures value { result ≡ row.Branch form x0 l0 next }
@@ -227,19 +175,23 @@ fn branch(form: u8, x0: u8, l0: u8, next: u16) -> Row
 fn main_rows() -> [Row; 17] {
     [
         // The lines of the week, 0 to 7 days, lie behind the report's head, at location 2.
-        past(2, 0, 1),
+        Row::Past { l: 2, m: 0, k: 1 },
         integer_let(1, 3),
-        number(0),
+        Row::Number { value: 0 },
         integer_let(2, 5),
-        number(7),
+        Row::Number { value: 7 },
         tree_let(3, LINES, 2, 7),
         call(KEPT_IN_FOLDERS, 2, &[0, 1, 2]),
         // The later ones, 8 to 30 days, lie behind them, at location 3.
-        after(3, 2, LINES),
+        Row::After {
+            l: 3,
+            m: 2,
+            t: LINES,
+        },
         integer_let(4, 10),
-        number(8),
+        Row::Number { value: 8 },
         integer_let(5, 12),
-        number(30),
+        Row::Number { value: 30 },
         tree_let(6, LINES, 3, 14),
         call(KEPT_IN_FOLDERS, 3, &[0, 4, 5]),
         // How many are gone, and the report's head.
@@ -252,7 +204,7 @@ fn main_rows() -> [Row; 17] {
 // Lines of folders, from row 17: variable 0 is the folders, 1 and 2 are the least and the most days left.
 fn folder_rows() -> [Row; 5] {
     [
-        case(0),
+        Row::Case { x: 0 },
         branch(NO_FOLDER, 0, 0, 20),
         construct(NO_LINE, 0, &[]),
         // A folder: 3 its id, 4 its entries, 5 the folders behind it.
@@ -264,18 +216,26 @@ fn folder_rows() -> [Row; 5] {
 // Lines of entries, from row 22: variable 0 is the entries, 1 the folders, 2 and 3 are the least and the most days left.
 fn entry_rows() -> [Row; 16] {
     [
-        case(0),
+        Row::Case { x: 0 },
         branch(NO_ENTRY, 0, 0, 25),
         call(KEPT_IN_FOLDERS, 0, &[1, 2, 3]),
         // An entry: 4 its id, 5 its age, 6 the entries behind it.
         branch(ENTRY, 4, 3, 0),
-        case(5),
+        Row::Case { x: 5 },
         // Its age: 7 the days since, 8 the days left.
         branch(KEPT, 7, 0, 36),
-        test(2, 8, 35),
-        test(8, 3, 34),
+        Row::Test {
+            x: 2,
+            y: 8,
+            other: 35,
+        },
+        Row::Test {
+            x: 8,
+            y: 3,
+            other: 34,
+        },
         // The line of this entry, with the lines of the rest behind its head.
-        past(5, 0, 2),
+        Row::Past { l: 5, m: 0, k: 2 },
         tree_let(9, LINES, 5, 33),
         call(KEPT_IN_ENTRIES, 5, &[6, 1, 2, 3]),
         construct(LINE, 0, &[4, 8, 9]),
@@ -290,9 +250,9 @@ fn entry_rows() -> [Row; 16] {
 // How many are gone in folders, from row 38: variable 0 is the folders.
 fn gone_folder_rows() -> [Row; 5] {
     [
-        case(0),
+        Row::Case { x: 0 },
         branch(NO_FOLDER, 0, 0, 41),
-        number(0),
+        Row::Number { value: 0 },
         branch(FOLDER, 1, 2, 0),
         call(GONE_IN_ENTRIES, NONE, &[2, 3]),
     ]
@@ -301,25 +261,25 @@ fn gone_folder_rows() -> [Row; 5] {
 // How many are gone in entries, from row 43: variable 0 is the entries, 1 the folders.
 fn gone_entry_rows() -> [Row; 13] {
     [
-        case(0),
+        Row::Case { x: 0 },
         branch(NO_ENTRY, 0, 0, 46),
         call(GONE_IN_FOLDERS, NONE, &[1]),
         // An entry: 5 is how many are gone behind it.
         branch(ENTRY, 2, 3, 0),
         integer_let(5, 49),
         call(GONE_IN_ENTRIES, NONE, &[4, 1]),
-        case(3),
+        Row::Case { x: 3 },
         branch(KEPT, 6, 0, 52),
-        variable(5),
+        Row::Variable { x: 5 },
         // Gone: one more.
         branch(GONE, 6, 0, 0),
         integer_let(7, 55),
-        number(1),
-        sum(5, 7),
+        Row::Number { value: 1 },
+        Row::Sum { x: 5, y: 7 },
     ]
 }
 
-// The rows of all functions, one function behind the other.
+// The rows of all functions, one function behind the other. One call each: the arrays are of five lengths.
 pub fn program_rows(heap: Global) -> Result<Vec<Row>, AllocError> {
     let mut rows = Vec::new(heap);
     rows.extend_from_slice(&main_rows())?;
@@ -330,23 +290,6 @@ pub fn program_rows(heap: Global) -> Result<Vec<Row>, AllocError> {
     Ok(rows)
 }
 
-// The bytes of a table with these records, in a buffer with so many places: they read back as the records.
-fn written(
-    heap: Global,
-    room: usize,
-    sizes: &[u8],
-    fields: &[Fields],
-    functions: &[Function],
-    rows: &[Row],
-) -> Result<Vec<u8>, Trouble>
-    ensures back { IfOk result (λ v. ReadsBack sizes.now fields.now functions.now rows.now v.items) }
-{
-    let mut bytes = vec![in heap; 0; room]?;
-    let long = write(sizes, fields, functions, rows, bytes.as_mut_slice())?;
-    bytes.truncate(long);
-    Ok(bytes)
-}
-
 // The bytes of the program, whose functions have these rows.
 pub fn program_bytes(heap: Global, rows: &[Row]) -> Result<Vec<u8>, Trouble>
     ensures back { IfOk result (λ v. ReadsBack program_sizes program_fields program_functions rows.now v.items) }
@@ -355,5 +298,8 @@ pub fn program_bytes(heap: Global, rows: &[Row]) -> Result<Vec<u8>, Trouble>
         .len()
         .saturating_mul(ROW_BYTES)
         .saturating_add(OTHER_BYTES);
-    written(heap, room, &SIZES, &FIELDS, &FUNCTIONS, rows)
+    let mut bytes = vec![in heap; 0; room]?;
+    let long = write(&SIZES, &FIELDS, &FUNCTIONS, rows, bytes.as_mut_slice())?;
+    bytes.truncate(long);
+    Ok(bytes)
 }

@@ -1,11 +1,18 @@
 // Bytes that are held in a region of a store and got back.
 ghost use Rattle.std.specs.Prelude.{◌≡◌, IfOk};
 
+use crate::show::Trouble;
 use crate::stored::Stored;
-use crate::trouble::Trouble;
 use cells::{Store, copy_through};
 use std::alloc::Global;
 use stores::{Flat, Paged};
+
+// How a store lays its cells.
+#[derive(Clone, Copy)]
+pub enum Layout {
+    Flat,
+    Paged,
+}
 
 // What a store is made of. It clears the numbers that are lent to it, so any would do.
 const LENT: u16 = 0;
@@ -28,19 +35,18 @@ pub fn stored_in<S: Store>(heap: Global, store: &mut S, bytes: &[u8]) -> Result<
     })
 }
 
-// The same, in a new flat store with so many cells.
-pub fn stored_flat(heap: Global, cells: usize, bytes: &[u8]) -> Result<Stored, Trouble>
+// The same, through a new store of a layout with so many cells.
+pub fn stored_as(
+    heap: Global,
+    layout: Layout,
+    cells: usize,
+    bytes: &[u8],
+) -> Result<Stored, Trouble>
     ensures back { IfOk result (λ s. s.back.items ≡ bytes.now) }
 {
     let mut lent = vec![in heap; LENT; cells]?;
-    let mut store = Flat::new(lent.as_mut_slice());
-    stored_in(heap, &mut store, bytes)
-}
-
-pub fn stored_paged(heap: Global, cells: usize, bytes: &[u8]) -> Result<Stored, Trouble>
-    ensures back { IfOk result (λ s. s.back.items ≡ bytes.now) }
-{
-    let mut lent = vec![in heap; LENT; cells]?;
-    let mut store = Paged::new(lent.as_mut_slice());
-    stored_in(heap, &mut store, bytes)
+    match layout {
+        Layout::Flat => stored_in(heap, &mut Flat::new(lent.as_mut_slice()), bytes),
+        Layout::Paged => stored_in(heap, &mut Paged::new(lent.as_mut_slice()), bytes),
+    }
 }

@@ -1,30 +1,29 @@
 // Prints a program's table, read from its bytes, and what becomes of damaged copies of it.
 use crate::damage::with_byte;
-use crate::listing::{ListedConstructor, ListedFunction, ListedRow, ListedType};
-use crate::show::Refusal;
-use crate::trouble::Trouble;
+use crate::listing::{Listed, Size};
+use crate::program::ROW_BYTES;
+use crate::show::{ProgramWords, Trouble};
 use checker::Checked;
+use reporting::Verdict;
 use table::{Layout, Table};
 
 // Places in the rows of the program that is written here, from the first row on: where row 1 names the row of its body, which
 // variable row 51 gives, what row 55 adds, and which lines row 16 puts first.
-const FIRST_BODY: usize = 16 + 4;
+const FIRST_BODY: usize = ROW_BYTES + 4;
 
-const GIVEN_COUNT: usize = 51 * 16 + 1;
+const GIVEN_COUNT: usize = 51 * ROW_BYTES + 1;
 
-const ADDED_ONE: usize = 55 * 16 + 2;
+const ADDED_ONE: usize = 55 * ROW_BYTES + 2;
 
-const LINES_OF_THE_WEEK: usize = 16 * 16 + 4;
+const LINES_OF_THE_WEEK: usize = 16 * ROW_BYTES + 4;
 
 // Prints how many constructors each type has.
 fn print_types(rt: &HostRuntime, table: &Table) -> Result<(), Trouble> {
     let types = table.layout().types;
     if let Some(sizes) = table.bytes().get(types.start..types.end) {
         for (number, size) in sizes.iter().enumerate() {
-            let listed = ListedType {
-                number,
-                size: *size,
-            };
+            let item = Size(*size);
+            let listed = Listed { number, item };
             println!(rt; "{listed}")?;
         }
     }
@@ -33,23 +32,22 @@ fn print_types(rt: &HostRuntime, table: &Table) -> Result<(), Trouble> {
 
 fn print_constructors(rt: &HostRuntime, table: &Table) -> Result<(), Trouble> {
     let shapes = table.shapes();
-    for number in 0..u8::MAX {
-        if let Some(constructor) = shapes.constructor(number) {
-            let listed = ListedConstructor {
-                number,
-                constructor,
-            };
-            println!(rt; "{listed}")?;
-        }
+    for (number, item) in shapes.forms().iter().enumerate() {
+        let listed = Listed {
+            number,
+            item: *item,
+        };
+        println!(rt; "{listed}")?;
     }
     Ok(())
 }
 
+// Functions and rows in a loop each: a function over the closure that asks is not yet proved where it holds a table's lifetime.
 fn print_functions(rt: &HostRuntime, table: &Table) -> Result<(), Trouble> {
     let functions = table.functions();
     for number in 0..functions.len() {
-        if let Some(function) = functions.get(number) {
-            let listed = ListedFunction { number, function };
+        if let Some(item) = functions.get(number) {
+            let listed = Listed { number, item };
             println!(rt; "{listed}")?;
         }
     }
@@ -59,8 +57,8 @@ fn print_functions(rt: &HostRuntime, table: &Table) -> Result<(), Trouble> {
 fn print_rows(rt: &HostRuntime, table: &Table) -> Result<(), Trouble> {
     let rows = table.rows();
     for number in 0..rows.len() {
-        if let Some(row) = rows.get(number) {
-            let listed = ListedRow { number, row };
+        if let Some(item) = rows.get(number) {
+            let listed = Listed { number, item };
             println!(rt; "{listed}")?;
         }
     }
@@ -87,71 +85,82 @@ fn print_sections(rt: &HostRuntime, table: &Table) -> Result<(), Trouble> {
 // Prints what the check says of the bytes.
 fn print_verdict(rt: &HostRuntime, tried: &str, bytes: &[u8]) -> Result<(), Trouble> {
     let mut checked = Checked::built_in();
-    match checked.check(bytes) {
-        Ok(()) => println!(rt; "{tried}: accepted")?,
-        Err(fault) => {
-            let refused = Refusal { tried, fault };
-            println!(rt; "{refused}")?;
-        }
+    let verdict = Verdict::<ProgramWords>::new(tried, checked.check(bytes).err());
+    println!(rt; "{verdict}")?;
+    Ok(())
+}
+
+// A copy with another byte at one place.
+#[derive(Clone, Copy)]
+struct Change {
+    tried: &'static str,
+    at: usize,
+    byte: u8,
+}
+
+// Prints what the check says of copies of the bytes, each with one change.
+fn print_changes(rt: &HostRuntime, bytes: &[u8], changes: &[Change]) -> Result<(), Trouble> {
+    for change in changes {
+        let copy = with_byte(rt.alloc(), bytes, change.at, change.byte)?;
+        print_verdict(rt, change.tried, &copy)?;
     }
     Ok(())
 }
 
-// The same, of a copy with another byte at one place.
-fn print_changed(
-    rt: &HostRuntime,
-    tried: &str,
-    bytes: &[u8],
-    at: usize,
-    byte: u8,
-) -> Result<(), Trouble> {
-    let copy = with_byte(rt.alloc(), bytes, at, byte)?;
-    print_verdict(rt, tried, &copy)
-}
-
 // Prints what becomes of copies that cannot be read.
 fn print_unreadable(rt: &HostRuntime, bytes: &[u8], layout: &Layout) -> Result<(), Trouble> {
-    let cut = &bytes[0..bytes.len().saturating_sub(1)];
+    let cut = &bytes[..bytes.len().saturating_sub(1)];
     print_verdict(rt, "cut by one byte", cut)?;
     let mut longer = bytes.to_vec(rt.alloc())?;
     longer.push(0)?;
     print_verdict(rt, "with one byte more", &longer)?;
-    let types = layout.types.start;
-    print_changed(rt, "with a third constructor of type 0", bytes, types, 3)?;
-    print_changed(rt, "of edition 2", bytes, 0, 2)?;
     let rows = layout.rows.start;
-    print_changed(rt, "with a row of kind 14", bytes, rows, 14)?;
-    let body = rows.saturating_add(FIRST_BODY);
-    print_changed(rt, "with a body that starts a row too late", bytes, body, 4)
+    let changes = [
+        Change {
+            tried: "with a third constructor of type 0",
+            at: layout.types.start,
+            byte: 3,
+        },
+        Change {
+            tried: "of edition 2",
+            at: 0,
+            byte: 2,
+        },
+        Change {
+            tried: "with a row of kind 14",
+            at: rows,
+            byte: 14,
+        },
+        Change {
+            tried: "with a body that starts a row too late",
+            at: rows.saturating_add(FIRST_BODY),
+            byte: 4,
+        },
+    ];
+    print_changes(rt, bytes, &changes)
 }
 
 // Prints what becomes of copies that break a typing rule.
 fn print_mistyped(rt: &HostRuntime, bytes: &[u8], layout: &Layout) -> Result<(), Trouble> {
     let rows = layout.rows.start;
-    let given = rows.saturating_add(GIVEN_COUNT);
-    print_changed(
-        rt,
-        "that gives a variable which nothing binds",
-        bytes,
-        given,
-        9,
-    )?;
-    let added = rows.saturating_add(ADDED_ONE);
-    print_changed(
-        rt,
-        "that adds a list of folders to a count",
-        bytes,
-        added,
-        1,
-    )?;
-    let lines = rows.saturating_add(LINES_OF_THE_WEEK);
-    print_changed(
-        rt,
-        "with the later lines in place of the week's",
-        bytes,
-        lines,
-        6,
-    )
+    let changes = [
+        Change {
+            tried: "that gives a variable which nothing binds",
+            at: rows.saturating_add(GIVEN_COUNT),
+            byte: 9,
+        },
+        Change {
+            tried: "that adds a list of folders to a count",
+            at: rows.saturating_add(ADDED_ONE),
+            byte: 1,
+        },
+        Change {
+            tried: "with the later lines in place of the week's",
+            at: rows.saturating_add(LINES_OF_THE_WEEK),
+            byte: 6,
+        },
+    ];
+    print_changes(rt, bytes, &changes)
 }
 
 // Checks a program's table and prints all of it, then the damaged copies.

@@ -1,5 +1,6 @@
 pub mod Contents
+pub mod Ordered
+pub mod Meant
 pub mod Flats
-pub mod Flatted
 pub mod Slots
 pub mod Pageds

@@ -1,6 +1,9 @@
 -- Sixteen-bit numbers as cells, and what a store leaves of the numbers that were lent to it.
-use Rattle.std.specs.Prelude.{◌≡◌, ℕ, ◌<◌, ◌≤◌, cond, List, drop, Some, None, Option, nat_lt, slice_index}
+use Rattle.std.specs.Prelude.{◌≡◌, ℕ, ◌<◌, ◌≤◌, cond, true, List, drop, is_some, Some, None, Option, Result, MatchResult, nat_lt, slice_index, slice_set}
 use Rattle.std.proofs.Common.{◌∙◌}
+use Rattle.packed.specs.declared.fault.Fault.{Fault}
+use Rattle.packed.specs.declared.fault.Reason.TheVariants as reason
+use Rattle.packed.specs.Packing.{refusal}
 
 -- a number below 256 is a byte; 256 stands for an empty cell, and no store writes another
 abbrev pub content : ℕ → Option ℕ
@@ -9,6 +12,12 @@ content c = cond (nat_lt c 256) (Some c) None
 -- all cells from one number on, before another, are empty
 abbrev pub Clear : List ℕ → ℕ → ℕ → Type 0
 Clear cells from to = (p : ℕ) → from ≤ p → p < to → slice_index cells p ≡ 256
+
+-- a byte is put into a cell that is empty; where one holds a byte, that is refused, and no number changes
+abbrev pub Filling : List ℕ → ℕ → ℕ → Result (Unit {0}) Fault → List ℕ → Type 0
+Filling cells at b r cells' = MatchResult r
+    (λ _. (content (slice_index cells at) ≡ None) × (cells' ≡ slice_set cells at b))
+    (λ f. (is_some (content (slice_index cells at)) ≡ true) × (f ≡ refusal reason.Filled 0) × (cells' ≡ cells))
 
 -- the store is as large as it was, and the numbers behind its last cell are as they were
 abbrev pub Kept : ℕ → List ℕ → ℕ → List ℕ → Type 0

@@ -4,6 +4,7 @@
 mod clearing;
 mod flat;
 mod paged;
+mod regions;
 
 pub use flat::Flat;
 pub use paged::Paged;

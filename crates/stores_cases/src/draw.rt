@@ -1,5 +1,5 @@
 // Calls drawn from a seed: legal and illegal ones, near the limits of what is open.
-use crate::call::Call;
+use words::Call;
 
 // A generator of numbers: a linear congruence modulo 2 to the 64th, of which the high bits are used.
 #[derive(Clone, Copy)]
@@ -18,6 +18,7 @@ impl Draw {
             .state
             .wrapping_mul(6364136223846793005)
             .wrapping_add(1442695040888963407);
+        // `as`: the 16 bits that are left fit.
         (self.state >> 48) as usize
     }
 
@@ -25,7 +26,7 @@ impl Draw {
     fn region(&mut self) -> usize {
         match self.next() % 16 {
             0 => 40,
-            1 => 18_446_744_073_709_551_615,
+            1 => usize::MAX,
             2 | 3 => self.next() % 34,
             _ => self.next() % 4,
         }
@@ -34,9 +35,9 @@ impl Draw {
     // Mostly a cell of the first pages, at times any that a region may have or one past them.
     fn cell(&mut self) -> usize {
         match self.next() % 16 {
-            0 => 18_446_744_073_709_551_615,
+            0 => usize::MAX,
             1 => self.next() % 32770,
-            2 | 3 | 4 => self.next() % 200,
+            2..=4 => self.next() % 200,
             _ => self.next() % 24,
         }
     }
@@ -45,7 +46,7 @@ impl Draw {
         match self.next() % 16 {
             0 => 0,
             1 => 32769,
-            2 => 18_446_744_073_709_551_615,
+            2 => usize::MAX,
             3 => 32768,
             4 => 64,
             5 => 65,
@@ -62,12 +63,13 @@ impl Draw {
             2 => Call::Grain,
             3 => Call::Regions,
             4 => Call::Room(self.region()),
-            5 | 6 | 7 | 8 | 9 => Call::Get(self.region(), self.cell()),
+            5..=9 => Call::Get(self.region(), self.cell()),
             _ => Call::Put(self.region(), self.cell(), self.byte()),
         }
     }
 
     fn byte(&mut self) -> u8 {
+        // `as`: the rest by 256 fits.
         (self.next() % 256) as u8
     }
 }

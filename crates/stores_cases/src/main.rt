@@ -1,15 +1,19 @@
 // Long lists of generated calls on both stores, against a model that is written apart: one line a store.
 #![tactic(auto)]
 
-mod call;
+ghost use Rattle.std.specs.Prelude.{◌<◌};
+
+mod answer;
 mod draw;
+mod layout;
 mod model;
 mod tally;
 
-use call::make;
+use answer::make;
 use cells::Store;
 use draw::Draw;
-use model::{Model, total_of};
+use layout::Layout;
+use model::Model;
 use std::alloc::{AllocError, Global};
 use stores::{Flat, Paged};
 use tally::Tally;
@@ -40,61 +44,62 @@ fn play<S: Store>(
     Ok(())
 }
 
-// Whether all numbers from a place on are as they were.
-fn untouched(cells: &[u16], from: usize) -> bool {
-    for (i, number) in cells.iter().enumerate() {
-        if i >= from && *number != BEFORE {
-            return false;
-        }
-    }
-    true
-}
-
 // One list on a new buffer; the numbers that a store does not use stay as they were.
 fn play_list(
     heap: Global,
-    paged: bool,
+    layout: Layout,
     long: usize,
     seed: u64,
     tally: &mut Tally,
 ) -> Result<bool, AllocError> {
     let mut cells = vec![in heap; BEFORE; long]?;
-    let mut model = Model::new(heap, paged, long);
-    if paged {
-        let mut store = Paged::new(cells.as_mut_slice());
-        play(&mut store, &mut model, seed, tally)?;
-    } else {
-        let mut store = Flat::new(cells.as_mut_slice());
-        play(&mut store, &mut model, seed, tally)?;
+    let mut model = Model::new(heap, layout, long);
+    let lent = cells.as_mut_slice();
+    match layout {
+        Layout::Flat => play(&mut Flat::new(lent), &mut model, seed, tally)?,
+        Layout::Paged => play(&mut Paged::new(lent), &mut model, seed, tally)?,
     }
-    Ok(untouched(cells.as_slice(), total_of(paged, long)))
+    let mut behind = cells.iter().skip(layout.total(long));
+    Ok(behind.all(|&number| number == BEFORE))
 }
 
-fn play_all(heap: Global, paged: bool, tally: &mut Tally) -> Result<bool, AllocError> {
+// One list for each length.
+fn play_round(
+    heap: Global,
+    layout: Layout,
+    round: usize,
+    tally: &mut Tally,
+) -> Result<bool, AllocError>
+    requires { round < 15 }
+{
     let mut kept = true;
-    for i in 0..ROUNDS {
-        for j in 0..LENGTHS.len() {
-            let seed = (i * LENGTHS.len() + j) as u64;
-            if !play_list(heap, paged, LENGTHS[j], seed, tally)? {
-                kept = false;
-            }
-        }
+    for (i, &long) in LENGTHS.iter().enumerate() {
+        // `as`: a usize fits into 64 bits.
+        let seed = (round * LENGTHS.len() + i) as u64;
+        kept &= play_list(heap, layout, long, seed, tally)?;
     }
     Ok(kept)
 }
 
-fn show(rt: &HostRuntime, paged: bool) -> anyhow::Result<()> {
+fn play_all(heap: Global, layout: Layout, tally: &mut Tally) -> Result<bool, AllocError> {
+    let mut kept = true;
+    for round in 0..ROUNDS {
+        kept &= play_round(heap, layout, round, tally)?;
+    }
+    Ok(kept)
+}
+
+fn show(rt: &HostRuntime, layout: Layout) -> anyhow::Result<()> {
     let mut tally = Tally::new();
-    let kept = play_all(rt.alloc(), paged, &mut tally)?;
-    let name = if paged { "paged" } else { "flat" };
+    let kept = play_all(rt.alloc(), layout, &mut tally)?;
+    let name = layout.name();
     let whole = if tally.is_whole() {
         "all reached"
     } else {
         "NOT all reached"
     };
     let rest = if kept { "untouched" } else { "TOUCHED" };
-    let alike = tally.alike;
-    let other = tally.other;
+    let Tally { alike, other, .. } = tally;
     println!(rt;
         "{name}: {alike} calls answered as the model does, {other} otherwise; 61 to 65 {whole}; numbers behind the cells {rest}"
     )?;
@@ -102,8 +107,8 @@ fn show(rt: &HostRuntime, paged: bool) -> anyhow::Result<()> {
 }
 
 fn run(rt: &HostRuntime) -> anyhow::Result<()> {
-    show(rt, false)?;
-    show(rt, true)
+    show(rt, Layout::Flat)?;
+    show(rt, Layout::Paged)
 }
 
 fn main(rt: HostRuntime) -> anyhow::Result<()> {

@@ -1,7 +1,9 @@
 // The model: what a store means, written without regard to any store. It lists the rooms that were opened and the bytes
 // that were put, and searches the list for each get.
-use crate::call::{Answer, Call};
+use crate::answer::{LAYER, PLACE, Refusal};
+use crate::layout::Layout;
 use std::alloc::{AllocError, Global};
+use words::Call;
 
 #[derive(Clone, Copy)]
 struct Entry {
@@ -12,104 +14,90 @@ struct Entry {
 
 #[derive(Drop)]
 pub struct Model {
-    paged: bool,
+    layout: Layout,
     free: usize,
     rooms: Vec<usize>,
     entries: Vec<Entry>,
 }
 
-// How many cells of a buffer a store has.
-pub fn total_of(paged: bool, long: usize) -> usize {
-    let used = if long < 65536 { long } else { 65536 };
-    if paged { used / 64 * 64 } else { used }
+// Every refusal of a store is of layer 4, at place 0. By number, so that the model tests the numbers too.
+fn refusal(number: u8) -> Refusal {
+    Refusal {
+        number,
+        layer: LAYER,
+        place: PLACE,
+    }
 }
 
 impl Model {
-    pub fn new(heap: Global, paged: bool, long: usize) -> Model {
+    pub fn new(heap: Global, layout: Layout, long: usize) -> Model {
         Model {
-            paged,
-            free: total_of(paged, long),
+            layout,
+            free: layout.total(long),
             rooms: Vec::new(heap),
             entries: Vec::new(heap),
         }
     }
 
     fn byte_at(&self, region: usize, cell: usize) -> Option<u8> {
-        for entry in self.entries.as_slice() {
-            if entry.region == region && entry.cell == cell {
-                return Some(entry.byte);
+        self.entries
+            .iter()
+            .find(|entry| entry.region == region && entry.cell == cell)
+            .map(|entry| entry.byte)
+    }
+
+    fn room(&self, region: usize) -> Result<usize, Refusal> {
+        self.rooms.get(region).copied().ok_or(refusal(61))
+    }
+
+    // What a cell holds that lies in a room.
+    fn held(&self, region: usize, cell: usize) -> Result<Option<u8>, Refusal> {
+        if cell >= self.room(region)? {
+            return Err(refusal(62));
+        }
+        Ok(self.byte_at(region, cell))
+    }
+
+    fn get(&self, region: usize, cell: usize) -> Result<usize, Refusal> {
+        self.held(region, cell)?.map(usize::from).ok_or(refusal(64))
+    }
+
+    fn put(
+        &mut self,
+        region: usize,
+        cell: usize,
+        byte: u8,
+    ) -> Result<Result<usize, Refusal>, AllocError> {
+        match self.held(region, cell) {
+            Err(why) => Ok(Err(why)),
+            Ok(Some(_)) => Ok(Err(refusal(63))),
+            Ok(None) => {
+                self.entries.push(Entry { region, cell, byte })?;
+                Ok(Ok(0))
             }
         }
-        None
     }
 
-    // The refusal that a put and a get share.
-    fn outside(&self, region: usize, cell: usize) -> u8 {
-        if region >= self.rooms.len() {
-            61
-        } else if cell >= self.rooms[region] {
-            62
-        } else {
-            0
-        }
-    }
-
-    fn open(&mut self, room: usize) -> Result<Answer, AllocError> {
+    fn open(&mut self, room: usize) -> Result<Result<usize, Refusal>, AllocError> {
         let number = self.rooms.len();
-        if room == 0 || room > 32768 || number == 32 {
-            return Ok(Answer::refused(65));
-        }
-        let need = if self.paged {
-            (room + 63) / 64 * 64
-        } else {
-            room
-        };
-        if need > self.free {
-            return Ok(Answer::refused(65));
+        let taken = self.layout.taken(room);
+        if room == 0 || room > 32768 || number == 32 || taken > self.free {
+            return Ok(Err(refusal(65)));
         }
         self.rooms.push(room)?;
-        self.free -= need;
-        Ok(Answer::of(number))
+        self.free -= taken;
+        Ok(Ok(number))
     }
 
-    fn put(&mut self, region: usize, cell: usize, byte: u8) -> Result<Answer, AllocError> {
-        let outside = self.outside(region, cell);
-        if outside != 0 {
-            return Ok(Answer::refused(outside));
-        }
-        if self.byte_at(region, cell).is_some() {
-            return Ok(Answer::refused(63));
-        }
-        self.entries.push(Entry { region, cell, byte })?;
-        Ok(Answer::of(0))
-    }
-
-    fn get(&self, region: usize, cell: usize) -> Answer {
-        let outside = self.outside(region, cell);
-        if outside != 0 {
-            return Answer::refused(outside);
-        }
-        match self.byte_at(region, cell) {
-            Some(byte) => Answer::of(byte as usize),
-            None => Answer::refused(64),
-        }
-    }
-
-    fn room(&self, region: usize) -> Answer {
-        if region >= self.rooms.len() {
-            return Answer::refused(61);
-        }
-        Answer::of(self.rooms[region])
-    }
-
-    pub fn make(&mut self, call: Call) -> Result<Answer, AllocError> {
+    // What the call is answered.
+    pub fn make(&mut self, call: Call) -> Result<Result<usize, Refusal>, AllocError> {
         match call {
             Call::Open(room) => self.open(room),
             Call::Put(region, cell, byte) => self.put(region, cell, byte),
             Call::Get(region, cell) => Ok(self.get(region, cell)),
-            Call::Free => Ok(Answer::of(self.free)),
-            Call::Grain => Ok(Answer::of(if self.paged { 64 } else { 1 })),
-            Call::Regions => Ok(Answer::of(self.rooms.len())),
+            Call::Free => Ok(Ok(self.free)),
+            Call::Grain => Ok(Ok(self.layout.grain())),
+            Call::Regions => Ok(Ok(self.rooms.len())),
             Call::Room(region) => Ok(self.room(region)),
         }
     }

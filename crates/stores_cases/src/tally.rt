@@ -1,11 +1,14 @@
 // Which refusals were reached, and how many calls were answered alike.
-use crate::call::Answer;
+use crate::answer::{LAYER, PLACE, Refusal};
+
+// The first number of a store's refusals. By number, so that the model tests the numbers too.
+const FIRST: u8 = 61;
 
 #[derive(Clone, Copy)]
 pub struct Tally {
     pub alike: u32,
     pub other: u32,
-    pub reached: [bool; 5],
+    reached: [bool; 5],
 }
 
 impl Tally {
@@ -17,19 +20,29 @@ impl Tally {
         }
     }
 
-    pub fn note(&mut self, one: Answer, two: Answer) {
-        if one.same(two) {
+    pub fn note(&mut self, one: Result<usize, Refusal>, two: Result<usize, Refusal>) {
+        if one == two {
             self.alike = self.alike.wrapping_add(1);
         } else {
             self.other = self.other.wrapping_add(1);
         }
-        if one.refusal >= 61 && one.refusal <= 65 {
-            self.reached[(one.refusal - 61) as usize] = true;
+        if let Err(
+            Refusal {
+                number,
+                layer: LAYER,
+                place: PLACE,
+            },
+        ) = one
+        {
+            let at = usize::from(number.wrapping_sub(FIRST));
+            if let Some(reached) = self.reached.get_mut(at) {
+                *reached = true;
+            }
         }
     }
 
     // Whether every refusal of a store was reached.
     pub fn is_whole(&self) -> bool {
-        self.reached[0] && self.reached[1] && self.reached[2] && self.reached[3] && self.reached[4]
+        self.reached.iter().all(|&reached| reached)
     }
 }

@@ -57,14 +57,14 @@ bodies-low n [] = tt
 bodies-low n (h ∷ firsts) = (tt, bodies-low n firsts)
 
 named-low : (n m h : ℕ) (v : Bool) (k : ℕ) → m < n → cond v None (Some m) ≡ Some k → k < n
-named-low n m h true k l e = absurd (let z : ◌≡◌ {A = ℕ} 0 1 = cc in omega arith)
+named-low n m h true k l e = absurd (grind arith)
 named-low n m h false k l e = let same : m ≡ k = cc in omega arith
 
 misnamed-low : (n : ℕ) (d : Due) (k : ℕ) → Low n d → misnamed d n ≡ Some k → k < n
-misnamed-low n (body h) k l e = absurd (let z : ◌≡◌ {A = ℕ} 0 1 = cc in omega arith)
-misnamed-low n child k l e = absurd (let z : ◌≡◌ {A = ℕ} 0 1 = cc in omega arith)
+misnamed-low n (body h) k l e = absurd (grind arith)
+misnamed-low n child k l e = absurd (grind arith)
 misnamed-low n (later m h) k l e = named-low n m h (eqb h n) k l e
-misnamed-low n branch k l e = absurd (let z : ◌≡◌ {A = ℕ} 0 1 = cc in omega arith)
+misnamed-low n branch k l e = absurd (grind arith)
 misnamed-low n (further m h) k l e = named-low n m h (eqb h n) k l e
 
 least-low : (a b : Option ℕ) (n most : ℕ) → ((k : ℕ) → a ≡ Some k → k ≤ most) → ((k : ℕ) → b ≡ Some k → k ≤ most) → least a b ≡ Some n → n ≤ most
@@ -77,7 +77,7 @@ cond-low true o m n most h f e = f n e
 cond-low false o m n most h f e = let same : m ≡ n = cc in omega arith
 
 disorder-low : (rows : List Row) (due : List Due) (n p : ℕ) → Lows n due → disorder due rows n ≡ Some p → p ≤ n + length rows
-disorder-low [] [] n p l e = absurd (let z : ◌≡◌ {A = ℕ} 0 1 = cc in omega arith)
+disorder-low [] [] n p l e = absurd (grind arith)
 disorder-low (r ∷ rows) [] n p l e = let same : n ≡ p = cc in omega arith
 disorder-low [] (d ∷ due) n p l e =
     least-low (misnamed d n) (Some n) p (n + 0) (λ k f. let h = misnamed-low n d k l.0 f in omega arith) (λ k f. let same : n ≡ k = cc in omega arith) e

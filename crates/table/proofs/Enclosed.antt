@@ -7,13 +7,13 @@ use Rattle.table.specs.declared.row.Row.{Row}
 use Rattle.table.specs.declared.row.Row.TheVariants as row
 use Rattle.table.specs.Enclosing.{BoundIn, TakerAt, BranchOf}
 use Rattle.table.specs.Enclosing.BranchOf.{first as branch-first, next as branch-next}
-use Rattle.table.specs.Links.{binds, bound_end, bound_end_at, case_below, case_for, case_of, is_case, is_case_at, next_at, next_branch, taker_for, taker_of}
+use Rattle.table.specs.Links.{binds, bound_end, bound_end_at, case_below, case_for, case_of, is_case, is_case_at, leads, next_at, next_branch, taker_for, taker_of}
 use Rattle.table.specs.Order.{is_branch}
 use Rattle.table.specs.Spans.{Spans, Branches, Bodies}
 use Rattle.table.specs.Spans.Spans.{variable, number, sum, difference, region, start, past, after, construct, bind, test, call, case}
 use Rattle.table.specs.Spans.Branches.{last, more}
 use Rattle.table.specs.Spans.Bodies.{none, body as standing}
-use Rattle.table.proofs.Linking.{Binder, leads, lead-here, lead-other, taker-binds, taker-greatest, taker-none}
+use Rattle.table.proofs.Linking.{Binder, lead-here, lead-other, taker-binds, taker-greatest, taker-none}
 use Rattle.table.proofs.Walking.{row_below}
 
 -- one place has one row
@@ -22,21 +22,9 @@ one-row o q r a b = cc
 
 -- a row that is a case, and one that names a branch
 case-of-test : (o : Option Row) → either o false is_case ≡ true → (x : ℕ) × (o ≡ Some (row.Case x))
-case-of-test None e = absurd (let z : ◌≡◌ {A = ℕ} 0 1 = cc in omega arith)
-case-of-test (Some (row.Variable x)) e = absurd (let z : ◌≡◌ {A = ℕ} 0 1 = cc in omega arith)
-case-of-test (Some (row.Number value)) e = absurd (let z : ◌≡◌ {A = ℕ} 0 1 = cc in omega arith)
-case-of-test (Some (row.Sum x y)) e = absurd (let z : ◌≡◌ {A = ℕ} 0 1 = cc in omega arith)
-case-of-test (Some (row.Difference x y)) e = absurd (let z : ◌≡◌ {A = ℕ} 0 1 = cc in omega arith)
-case-of-test (Some (row.Region r room)) e = absurd (let z : ◌≡◌ {A = ℕ} 0 1 = cc in omega arith)
-case-of-test (Some (row.Start l r)) e = absurd (let z : ◌≡◌ {A = ℕ} 0 1 = cc in omega arith)
-case-of-test (Some (row.Past l m k)) e = absurd (let z : ◌≡◌ {A = ℕ} 0 1 = cc in omega arith)
-case-of-test (Some (row.After l m t)) e = absurd (let z : ◌≡◌ {A = ℕ} 0 1 = cc in omega arith)
-case-of-test (Some (row.Construct form l v0 v1 v2 v3 v4 v5 v6 v7)) e = absurd (let z : ◌≡◌ {A = ℕ} 0 1 = cc in omega arith)
-case-of-test (Some (row.Let x kind l body)) e = absurd (let z : ◌≡◌ {A = ℕ} 0 1 = cc in omega arith)
-case-of-test (Some (row.Test x y other)) e = absurd (let z : ◌≡◌ {A = ℕ} 0 1 = cc in omega arith)
-case-of-test (Some (row.Call f l v0 v1 v2 v3)) e = absurd (let z : ◌≡◌ {A = ℕ} 0 1 = cc in omega arith)
+case-of-test None e = cc
 case-of-test (Some (row.Case x)) e = (x, refl)
-case-of-test (Some (row.Branch form x0 l0 next)) e = absurd (let z : ◌≡◌ {A = ℕ} 0 1 = cc in omega arith)
+case-of-test (Some _) e = cc
 
 pub record Names (o : Option Row) (b : ℕ) : Type 0 where
   pub form : ℕ
@@ -46,38 +34,16 @@ pub record Names (o : Option Row) (b : ℕ) : Type 0 where
 
 names-of-test : (o : Option Row) (b : ℕ) → 0 < b → either o 0 next_branch ≡ b → Names o b
 names-of-test None b p e = absurd (omega arith)
-names-of-test (Some (row.Variable x)) b p e = absurd (omega arith)
-names-of-test (Some (row.Number value)) b p e = absurd (omega arith)
-names-of-test (Some (row.Sum x y)) b p e = absurd (omega arith)
-names-of-test (Some (row.Difference x y)) b p e = absurd (omega arith)
-names-of-test (Some (row.Region r room)) b p e = absurd (omega arith)
-names-of-test (Some (row.Start l r)) b p e = absurd (omega arith)
-names-of-test (Some (row.Past l m k)) b p e = absurd (omega arith)
-names-of-test (Some (row.After l m t)) b p e = absurd (omega arith)
-names-of-test (Some (row.Construct form l v0 v1 v2 v3 v4 v5 v6 v7)) b p e = absurd (omega arith)
-names-of-test (Some (row.Let x kind l body)) b p e = absurd (omega arith)
-names-of-test (Some (row.Test x y other)) b p e = absurd (omega arith)
-names-of-test (Some (row.Call f l v0 v1 v2 v3)) b p e = absurd (omega arith)
-names-of-test (Some (row.Case x)) b p e = absurd (omega arith)
 names-of-test (Some (row.Branch form x0 l0 next)) b p e = record { form = form; x0 = x0; l0 = l0; is = ap (λ k. Some (row.Branch form x0 l0 k)) e }
+names-of-test (Some _) b p e = absurd (omega arith)
 
 module _ (rows : List Row) where
   -- what stands below row m, by the row, where the rows up to e − 1 are row m and what hangs on it
   abbrev Below : ℕ → ℕ → Row → Type 0
-  Below m e (row.Variable x) = Unit {0}
-  Below m e (row.Number value) = Unit {0}
-  Below m e (row.Sum x y) = Unit {0}
-  Below m e (row.Difference x y) = Unit {0}
-  Below m e (row.Region r room) = Unit {0}
-  Below m e (row.Start l r) = Unit {0}
-  Below m e (row.Past l k j) = Unit {0}
-  Below m e (row.After l k t) = Unit {0}
-  Below m e (row.Construct form l v0 v1 v2 v3 v4 v5 v6 v7) = Unit {0}
   Below m e (row.Let x kind l body) = Spans rows (m + 1) body
-  Below m e (row.Test x y other) = Unit {0}
-  Below m e (row.Call f l v0 v1 v2 v3) = Unit {0}
   Below m e (row.Case x) = Branches rows (m + 1) e
   Below m e (row.Branch form x0 l0 next) = (0 < next → Spans rows (m + 1) next × Branches rows next e)
+  Below m e _ = Unit {0}
 
   -- row m and what hangs on it end at or before row e; a branch has a case
   pub record Located (m e : ℕ) : Type 0 where
@@ -90,7 +56,7 @@ module _ (rows : List Row) where
     pub cased : is_branch row ≡ true → (c : ℕ) × BranchOf rows c m
 
   not-here : {X : Type 0} → false ≡ true → X
-  not-here e = absurd (let z : ◌≡◌ {A = ℕ} 0 1 = cc in omega arith)
+  not-here e = cc
 
   mutual
     spans-rise : {n e : ℕ} → Spans rows n e → n < e
@@ -206,24 +172,13 @@ module _ (rows : List Row) where
       and_from (ltb m n) (ltb n (bound_end_at rows m)) (lt-ltb m n b.above) (lt-ltb n (bound_end_at rows m) (omega arith))
 
   not-both : {X : Type 0} (b : Bool) → b ≡ true → b ≡ false → X
-  not-both b p q = absurd (let z : ◌≡◌ {A = ℕ} 0 1 = cc in omega arith)
+  not-both b p q = cc
 
   -- the row to which a row leads lies within what hangs on it
   lead_low : (m e : ℕ) (r : Row) → Below m e r → m < e → (cond (is_case r) (m + 1) (next_branch r) ≡ 0) ⊎ (cond (is_case r) (m + 1) (next_branch r) < e)
-  lead_low m e (row.Variable x) h l = inl refl
-  lead_low m e (row.Number value) h l = inl refl
-  lead_low m e (row.Sum x y) h l = inl refl
-  lead_low m e (row.Difference x y) h l = inl refl
-  lead_low m e (row.Region r room) h l = inl refl
-  lead_low m e (row.Start k r) h l = inl refl
-  lead_low m e (row.Past k j i) h l = inl refl
-  lead_low m e (row.After k j t) h l = inl refl
-  lead_low m e (row.Construct form k v0 v1 v2 v3 v4 v5 v6 v7) h l = inl refl
-  lead_low m e (row.Let x kind k body) h l = inl refl
-  lead_low m e (row.Test x y other) h l = inl refl
-  lead_low m e (row.Call f k v0 v1 v2 v3) h l = inl refl
   lead_low m e (row.Case x) h l = inr (branches-rise h)
   lead_low m e (row.Branch form x0 l0 next) h l = elim (cases_eq next 0) [ inl q ↦ inl q | inr d ↦ inr (branches-rise (h (omega arith)).1) ]
+  lead_low m e _ h l = inl refl
 
   module _ (firsts : List ℕ) (stand : Bodies rows 0 firsts) where
     place : (m : ℕ) (r : Row) → slice_get rows m ≡ Some r → (e : ℕ) × Located m e
@@ -302,7 +257,7 @@ module _ (rows : List Row) where
 
     -- and what is found to be a row's case is the case of that branch
     case-branch : (b top c : ℕ) → top ≤ b → case_below rows b top ≡ Some c → BranchOf rows c b
-    case-branch b zero c h e = absurd (let z : ◌≡◌ {A = ℕ} 0 1 = cc in omega arith)
+    case-branch b zero c h e = cc
     case-branch b (suc t) c h e = step (is_case_at rows t) refl (eqb (t + 1) b) refl (eqb (next_at rows t) b) refl e (case-branch t t c (omega arith)) (case-branch b t c (omega arith))
       where
         named-on : eqb (next_at rows t) b ≡ true → BranchOf rows c t → BranchOf rows c b
@@ -333,7 +288,7 @@ module _ (rows : List Row) where
     -- a link that is looked up only where there is a row
     for-on : (n m : ℕ) (o : Option ℕ) (v : Bool) → ltb n (length rows) ≡ v → cond v o None ≡ Some m → o ≡ Some m
     for-on n m o true e f = f
-    for-on n m o false e f = absurd (let z : ◌≡◌ {A = ℕ} 0 1 = cc in omega arith)
+    for-on n m o false e f = cc
 
     on-for : (n : ℕ) (o : Option ℕ) → n < length rows → cond (ltb n (length rows)) o None ≡ o
     on-for n o h = ap (λ v. cond v o None) (lt-ltb n (length rows) h)

@@ -9,7 +9,8 @@ use Rattle.table.specs.declared.section.Section.{Section}
 use Rattle.table.specs.declared.section.Layout.{Layout}
 use Rattle.table.specs.Rows.{word}
 use Rattle.table.specs.Laid.{Laid}
-use Rattle.table.specs.Sections.{onward, found, given, in_range, within, section_of, sections_of, counts_of, layout_of}
+use Rattle.packed.specs.Faults.{found, given}
+use Rattle.table.specs.Sections.{onward, in_range, within, section_of, sections_of, counts_of, layout_of}
 use Rattle.table.specs.Meaning.{first_unfair}
 use Rattle.table.specs.Order.{disorder, bodies}
 use Rattle.table.specs.Table.{sizes_in, constructors_in, functions_in, rows_in, fair_function_at, fair_row_at, limit_fault, meaning_of, order_of, table_of}
@@ -30,7 +31,7 @@ onward-err (Ok x) more f e = inr (x, refl, e)
 onward-err (Err g) more f e = let same : g ≡ f = cc in inl (ap Err same)
 
 given-err : (test : Bool) (why : Reason) (layer p : ℕ) (f : Fault) → given test why layer p ≡ Err f → (test ≡ false) × (found why layer p ≡ f)
-given-err true why layer p f e = absurd (let z : ◌≡◌ {A = ℕ} 0 1 = cc in omega arith)
+given-err true why layer p f e = absurd (grind arith)
 given-err false why layer p f e = let same : found why layer p ≡ f = cc in (refl, same)
 
 -- less is left than one record more would take
@@ -52,7 +53,7 @@ section-cut width bs at f wide here low e = first (leb (at + 2) (length bs)) ref
     first true k g = second (leb (word bs at) ((length bs - (at + 2)) / width)) refl g
       where
         second : (v : Bool) → leb (word bs at) ((length bs - (at + 2)) / width) ≡ v → cond {A = Result Section Fault} v (Ok (record { start = at + 2; count = word bs at; end = at + 2 + word bs at * width })) (Err (found reason.BytesEnd 1 (at + 2 + (length bs - (at + 2)) / width * width))) ≡ Err f → First bs f
-        second true q g = absurd (let z : ◌≡◌ {A = ℕ} 0 1 = cc in omega arith)
+        second true q g = absurd (grind arith)
         second false q g =
             let same : found reason.BytesEnd 1 (at + 2 + (length bs - (at + 2)) / width * width) ≡ f = cc in
             let fits = leb-true (at + 2) (length bs) k in
@@ -90,7 +91,7 @@ sections-cut bs f e =
                             let at_rows : Reached bs 16 g.0.end = reached-rows at-functions functions in
                             elim (onward-err (section_of 16 bs g.0.end) _ f g.2) [
                               | inl bad ↦ section-cut 16 bs g.0.end f (omega arith) at_rows functions.inside bad
-                              | inr r ↦ (let no = r.2 in absurd (let z : ◌≡◌ {A = ℕ} 0 1 = cc in omega arith))
+                              | inr r ↦ (let no = r.2 in absurd (grind arith))
                             ])
                       ])
                 ])
@@ -144,14 +145,14 @@ layout-first bs f e =
                 let last : l.rows.end ≡ length bs = omega arith in
                 elim (onward-err (counts_of bs l) _ f b.2) [
                   | inl bad ↦ (let w = counts-wrong bs l f bad in subst (First bs) w.2 (first_count whole last w.1))
-                  | inr c ↦ (let no = c.2 in absurd (let z : ◌≡◌ {A = ℕ} 0 1 = cc in omega arith))
+                  | inr c ↦ (let no = c.2 in absurd (grind arith))
                 ])
           ])
     ]
 
 -- the record that is refused is not fair, and all before it are
 unfair-first : (fair : ℕ → Bool) (start width i count : ℕ) (f : Fault) → first_unfair fair start width i count ≡ Err f → (k : ℕ) × (k < count) × (fair (i + k) ≡ false) × ((j : ℕ) → j < k → fair (i + j) ≡ true) × (found reason.Meaning 2 (start + (i + k) * width) ≡ f)
-unfair-first fair start width i zero f e = absurd (let z : ◌≡◌ {A = ℕ} 0 1 = cc in omega arith)
+unfair-first fair start width i zero f e = absurd (grind arith)
 unfair-first fair start width i (suc count) f e =
     elim (onward-err (given (fair i) reason.Meaning 2 (start + i * width)) (λ _. first_unfair fair start width (i + 1) count) f e) [
       | inl bad ↦ (
@@ -181,7 +182,7 @@ all-from-zero fair start width count u e k h = ap fair (sym (zero-add k)) ∙ al
 
 -- a refusal by what is there
 either-some : {A : Type 0} (o : Option A) (g : A → Fault) (f : Fault) → either o (Ok (tt {0})) (λ b. Err (g b)) ≡ Err f → (b : A) × (o ≡ Some b) × (g b ≡ f)
-either-some None g f e = absurd (let z : ◌≡◌ {A = ℕ} 0 1 = cc in omega arith)
+either-some None g f e = absurd (grind arith)
 either-some (Some b) g f e = let same : g b ≡ f = cc in (b, refl, same)
 
 module _ (bs : List ℕ) (l : Layout) where
@@ -239,7 +240,7 @@ first bs f e =
             | inl bad ↦ first-meaning fine (meaning-first bs l f bad)
             | inr b ↦ elim (onward-err (order_of bs l) _ f b.2) [
               | inl bad ↦ order-first bs l b.0 f fine b.1 bad
-              | inr c ↦ (let no = c.2 in absurd (let z : ◌≡◌ {A = ℕ} 0 1 = cc in omega arith))
+              | inr c ↦ (let no = c.2 in absurd (grind arith))
             ]
           ])
     ]

@@ -6,14 +6,13 @@ use Rattle.packed.specs.declared.fault.Fault.{Fault}
 use Rattle.packed.specs.declared.fault.Reason.{Reason}
 use Rattle.packed.specs.declared.fault.Reason.TheVariants as reason
 use Rattle.packed.specs.Forms.{total, either, limit_of}
-use Rattle.table.specs.declared.function.Function.{Function}
-use Rattle.table.specs.declared.row.Row.{Row}
 use Rattle.table.specs.declared.section.Section.{Section}
 use Rattle.table.specs.declared.section.Layout.{Layout}
 use Rattle.table.specs.Rows.{word, row_of}
 use Rattle.table.specs.Laid.{Lies, Laid}
 use Rattle.table.specs.First.{Whole}
-use Rattle.table.specs.Sections.{onward, found, given, in_range, within, section_of, sections_of, counts_of, layout_of}
+use Rattle.packed.specs.Faults.{found, given}
+use Rattle.table.specs.Sections.{onward, in_range, within, section_of, sections_of, counts_of, layout_of}
 use Rattle.table.specs.Meaning.{fair_function, fair_row, first_unfair}
 use Rattle.table.specs.Order.{disorder, bodies}
 use Rattle.table.specs.Table.{sizes_in, constructors_in, functions_in, rows_in, terms_in, limit_fault, meaning_of, order_of, table_of}
@@ -87,7 +86,7 @@ none-unfair fair start width i (suc count) all =
 -- a refusal by what is there, and none where nothing is
 pub either-none : {A : Type 0} (o : Option A) (f : A → Fault) (u : Unit {0}) → either o (Ok (tt {0})) (λ b. Err (f b)) ≡ Ok u → o ≡ None
 either-none None f u e = refl
-either-none (Some x) f u e = absurd (let z : ◌≡◌ {A = ℕ} 0 1 = cc in omega arith)
+either-none (Some x) f u e = absurd (grind arith)
 
 pub none-either : {A : Type 0} (o : Option A) (f : A → Fault) → o ≡ None → either o (Ok (tt {0})) (λ b. Err (f b)) ≡ Ok tt
 none-either o f e = ap (λ v. either v (Ok (tt {0})) (λ b. Err (f b))) e
@@ -118,12 +117,6 @@ module _ (bs : List ℕ) (l : Layout) where
         rows = λ i h. ap row_at (sym (zero-add i)) ∙ all-fair-at row_at l.rows.start 16 0 l.rows.count u c.2 i h;
         order = bodies-stand (rows_in bs l) firsts (either-none (disorder (bodies firsts) (rows_in bs l) 0) place v o);
       }
-
-  -- rows that are out of order, written with the code's own terms, refuse the table
-  pub order-refused : (u : Unit {0}) (fs : List Function) (rows : List Row) (f : Fault) → Ok l ≡ layout_of bs → Ok u ≡ meaning_of bs l → fs ≡ functions_in bs l → rows ≡ rows_in bs l → Err f ≡ either (disorder (bodies (map (λ g. g.first) fs)) rows 0) (Ok (tt {0})) (λ n. Err (place n)) → Err f ≡ table_of bs
-  order-refused u fs rows f e m a b o =
-      let out : Err f ≡ order_of bs l = o ∙ (λ i. either (disorder (bodies (map (λ g. g.first) (a i))) (b i) 0) (Ok (tt {0})) (λ n. Err (place n))) in
-      sym (go_on (layout_of bs) _ l (Err f) (sym e) (go_on (meaning_of bs l) _ u (Err f) (sym m) (ap (λ r. onward r (λ _. Ok l)) (sym out))))
 
   pub meaning-on : get_or bs 0 0 ≡ 1 → limit_of (sizes_in bs l) (constructors_in bs l) ≡ None → ((i : ℕ) → i < l.functions.count → fair_at i ≡ true) → ((i : ℕ) → i < l.rows.count → row_at i ≡ true) → meaning_of bs l ≡ Ok tt
   meaning-on one limits functions rows =

@@ -9,26 +9,27 @@ use Rattle.table.specs.declared.section.Section.{Section}
 use Rattle.table.specs.declared.section.Layout.{Layout}
 use Rattle.table.specs.Rows.{word}
 use Rattle.table.specs.Laid.{Lies, Laid}
-use Rattle.table.specs.Sections.{onward, found, given, in_range, within, section_of, sections_of, counts_of, layout_of}
+use Rattle.packed.specs.Faults.{found, given}
+use Rattle.table.specs.Sections.{onward, in_range, within, section_of, sections_of, counts_of, layout_of}
 
 -- what went on went on from something
 pub onward-ok : {A B : Type 0} (r : Result A Fault) (more : A → Result B Fault) (y : B) → onward r more ≡ Ok y → (x : A) × (r ≡ Ok x) × (more x ≡ Ok y)
 onward-ok (Ok x) more y e = (x, refl, e)
-onward-ok (Err f) more y e = absurd (let z : ◌≡◌ {A = ℕ} 0 1 = cc in omega arith)
+onward-ok (Err f) more y e = absurd (grind arith)
 
 pub given-ok : (test : Bool) (why : Reason) (layer p : ℕ) (u : Unit {0}) → given test why layer p ≡ Ok u → test ≡ true
 given-ok true why layer p u e = refl
-given-ok false why layer p u e = absurd (let z : ◌≡◌ {A = ℕ} 0 1 = cc in omega arith)
+given-ok false why layer p u e = absurd (grind arith)
 
 pub section-lies : (width : ℕ) (bs : List ℕ) (at : ℕ) (s : Section) → section_of width bs at ≡ Ok s → Lies width bs at s
 section-lies width bs at s e = first (leb (at + 2) (length bs)) refl e
   where
     first : (v : Bool) → leb (at + 2) (length bs) ≡ v → cond v (cond (leb (word bs at) ((length bs - (at + 2)) / width)) (Ok (record { start = at + 2; count = word bs at; end = at + 2 + word bs at * width })) (Err (found reason.BytesEnd 1 (at + 2 + (length bs - (at + 2)) / width * width)))) (Err (found reason.BytesEnd 1 at)) ≡ Ok s → Lies width bs at s
-    first false k f = absurd (let z : ◌≡◌ {A = ℕ} 0 1 = cc in omega arith)
+    first false k f = absurd (grind arith)
     first true k f = second (leb (word bs at) ((length bs - (at + 2)) / width)) refl f
       where
         second : (v : Bool) → leb (word bs at) ((length bs - (at + 2)) / width) ≡ v → cond v (Ok (record { start = at + 2; count = word bs at; end = at + 2 + word bs at * width })) (Err (found reason.BytesEnd 1 (at + 2 + (length bs - (at + 2)) / width * width))) ≡ Ok s → Lies width bs at s
-        second false q f = absurd (let z : ◌≡◌ {A = ℕ} 0 1 = cc in omega arith)
+        second false q f = absurd (grind arith)
         second true q f =
             let same : ◌≡◌ {A = Section} (record { start = at + 2; count = word bs at; end = at + 2 + word bs at * width }) s = cc in
             let fits = leb-true (at + 2) (length bs) k in

@@ -16,12 +16,12 @@ least-assoc (Some l) (Some m) (Some n) = let e : min l (min m n) ≡ min (min l 
 pub least-none-left : (a b : Option ℕ) → least a b ≡ None → a ≡ None
 least-none-left None b e = refl
 least-none-left (Some m) None e = e
-least-none-left (Some m) (Some n) e = absurd (let z : ◌≡◌ {A = ℕ} 0 1 = cc in omega arith)
+least-none-left (Some m) (Some n) e = cc
 
 pub least-none-right : (a b : Option ℕ) → least a b ≡ None → b ≡ None
 least-none-right None b e = e
 least-none-right (Some m) None e = refl
-least-none-right (Some m) (Some n) e = absurd (let z : ◌≡◌ {A = ℕ} 0 1 = cc in omega arith)
+least-none-right (Some m) (Some n) e = cc
 
 -- the least is one of the two
 min-either : (m n : ℕ) (b : Bool) → leb m n ≡ b → (min m n ≡ m) ⊎ (min m n ≡ n)

@@ -1,7 +1,7 @@
 pub mod RowBytes
 pub mod Rowing
 pub mod Recording
-pub mod Alls
+pub mod Arrays
 pub mod Judging
 pub mod Laying
 pub mod Limiting

@@ -12,11 +12,11 @@ small-cond true o b l e s k = k e
 small-cond false o b l e s k = subst Small (let same : b ≡ l = cc in same) s
 
 small_size : (t : ℕ) (ns : List ℕ) (l : Limit) → t + length ns ≤ 65536 → size_limit t ns ≡ Some l → Small l
-small_size t [] l h e = absurd (let z : ◌≡◌ {A = ℕ} 0 1 = cc in omega arith)
+small_size t [] l h e = absurd (grind arith)
 small_size t (n ∷ ns) l h e = small-cond (leb 1 n && leb n 16) (size_limit (t + 1) ns) (limit.TypeSize t) l e (omega arith) (λ f. small_size (t + 1) ns l (omega arith) f)
 
 small-fields : (types i : ℕ) (fs : List Fields) (l : Limit) → i + length fs ≤ 65536 → fields_limit types i fs ≡ Some l → Small l
-small-fields types i [] l h e = absurd (let z : ◌≡◌ {A = ℕ} 0 1 = cc in omega arith)
+small-fields types i [] l h e = absurd (grind arith)
 small-fields types i (f ∷ fs) l h e = small-cond (fair types f) (fields_limit types (i + 1) fs) (limit.Constructor i) l e (omega arith) (λ g. small-fields types (i + 1) fs l (omega arith) g)
 
 small-either : (o p : Option Limit) (l : Limit) → either o p Some ≡ Some l → (o ≡ Some l → Small l) → (p ≡ Some l → Small l) → Small l

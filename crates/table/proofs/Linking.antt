@@ -1,14 +1,14 @@
 -- The laws of takers and cases, and the steps of the loops that find them.
 use Rattle.std.proofs.Common.{◌≡◌, ℕ, zero, suc, ◌+◌, ◌<◌, ◌≤◌, Bool, true, false, cond, ◌&&◌, eqb, ltb, ◌≢◌, ◌⊎◌, List, length, get_or, set, replicate, Some, None, Option, sym, refl, ap, ◌∙◌, inl, inr, add-one, arith, length-set, get_or-set_other, get_or-set_same}
-use lib.ListN.{length-replicate, get_or-replicate}
+use lib.ListN.{length-replicate}
 use Rattle.std.specs.List.{slice_get}
 use Rattle.std.proofs.lemmas.Bool.{cases_eq, ltb-true, ltb-false, and_parts}
 use Rattle.std.proofs.lemmas.Bool.Decides.{nat_tests}
 use Rattle.packed.specs.Forms.{either}
 use Rattle.table.specs.declared.row.Row.{Row}
 use Rattle.table.specs.declared.row.Row.TheVariants as row
-use Rattle.table.specs.Links.{bound_end, bound_end_at, next_branch, next_at, is_case, is_case_at, binds, taker_below, taker_of, case_below, case_of}
-use Rattle.table.specs.Linked.{link_in, named}
+use Rattle.table.specs.Links.{bound_end, bound_end_at, next_branch, next_at, is_case, is_case_at, leads, binds, taker_below, taker_of, case_below, case_of}
+use Rattle.table.specs.Linked.{link_in}
 
 -- row m is a let whose bound part holds row n
 pub record Binder (rows : List Row) (m n : ℕ) : Type 0 where
@@ -28,49 +28,19 @@ record Greatest (rows : List Row) (n top m : ℕ) : Type 0 where
 
 binder-at : (rows : List Row) (m n : ℕ) (o : Option Row) → slice_get rows m ≡ o → m < n → n < either o 0 bound_end → Binder rows m n
 binder-at rows m n None e h l = absurd (omega arith)
-binder-at rows m n (Some (row.Variable x)) e h l = absurd (omega arith)
-binder-at rows m n (Some (row.Number value)) e h l = absurd (omega arith)
-binder-at rows m n (Some (row.Sum x y)) e h l = absurd (omega arith)
-binder-at rows m n (Some (row.Difference x y)) e h l = absurd (omega arith)
-binder-at rows m n (Some (row.Region r room)) e h l = absurd (omega arith)
-binder-at rows m n (Some (row.Start s r)) e h l = absurd (omega arith)
-binder-at rows m n (Some (row.Past s t k)) e h l = absurd (omega arith)
-binder-at rows m n (Some (row.After s t k)) e h l = absurd (omega arith)
-binder-at rows m n (Some (row.Construct form s v0 v1 v2 v3 v4 v5 v6 v7)) e h l = absurd (omega arith)
 binder-at rows m n (Some (row.Let x kind s body)) e h l = record { below = h; x = x; kind = kind; l = s; body = body; is = e; holds = l }
-binder-at rows m n (Some (row.Test x y other)) e h l = absurd (omega arith)
-binder-at rows m n (Some (row.Call f s v0 v1 v2 v3)) e h l = absurd (omega arith)
-binder-at rows m n (Some (row.Case x)) e h l = absurd (omega arith)
-binder-at rows m n (Some (row.Branch form x0 l0 next)) e h l = absurd (omega arith)
+binder-at rows m n (Some _) e h l = absurd (omega arith)
 
 -- a case names no next branch
 case-next : (o : Option Row) → either o false is_case ≡ true → either o 0 next_branch ≡ 0
 case-next None e = refl
-case-next (Some (row.Variable x)) e = refl
-case-next (Some (row.Number value)) e = refl
-case-next (Some (row.Sum x y)) e = refl
-case-next (Some (row.Difference x y)) e = refl
-case-next (Some (row.Region r room)) e = refl
-case-next (Some (row.Start l r)) e = refl
-case-next (Some (row.Past l m k)) e = refl
-case-next (Some (row.After l m t)) e = refl
-case-next (Some (row.Construct form l v0 v1 v2 v3 v4 v5 v6 v7)) e = refl
-case-next (Some (row.Let x kind l body)) e = refl
-case-next (Some (row.Test x y other)) e = refl
-case-next (Some (row.Call f l v0 v1 v2 v3)) e = refl
-case-next (Some (row.Case x)) e = refl
-case-next (Some (row.Branch form x0 l0 next)) e = absurd (let z : ◌≡◌ {A = ℕ} 0 1 = cc in omega arith)
+case-next (Some (row.Branch form x0 l0 next)) e = cc
+case-next (Some _) e = refl
 
-named-is : (w : ℕ) → ((w ≡ 65535) × (named w ≡ None)) ⊎ ((w ≢ 65535) × (named w ≡ Some w))
-named-is w = elim (cases_eq w 65535) [ inl e ↦ inl (e, ap named e) | inr d ↦ inr (d, grind (arith, nat_tests)) ]
-
--- how far a walk from a row on down may go
-abbrev pub depth : Option ℕ → ℕ
-depth None = 0
-depth (Some t) = suc t
-
-blank : (room k : ℕ) → k < room → named (get_or (replicate room 65535) k 0) ≡ None
-blank room k h = ap named (get_or-replicate room k 65535 0 h)
+blank : (room k : ℕ) → get_or (replicate {A = Option ℕ} room None) k None ≡ None
+blank zero k = refl
+blank (suc room) zero = refl
+blank (suc room) (suc k) = blank room k
 
 module _ (rows : List Row) where
   taker-more : (n m : ℕ) (b : Bool) → binds rows m n ≡ b → taker_below rows n (suc m) ≡ cond b (Some m) (taker_below rows n m)
@@ -85,7 +55,7 @@ module _ (rows : List Row) where
       step false w again = elim (cases_eq k m) [ inl q ↦ ap (λ j. binds rows j n) q ∙ w | inr d ↦ again (sym (taker-more n m false w) ∙ e) (omega arith) ]
 
   greatest-below : (n top m : ℕ) → taker_below rows n top ≡ Some m → Greatest rows n top m
-  greatest-below n zero m e = absurd (let z : ◌≡◌ {A = ℕ} 0 1 = cc in omega arith)
+  greatest-below n zero m e = cc
   greatest-below n (suc top) m e = step (binds rows top n) refl (greatest-below n top m)
     where
       step : (b : Bool) → binds rows top n ≡ b → (taker_below rows n top ≡ Some m → Greatest rows n top m) → Greatest rows n (suc top) m
@@ -121,7 +91,7 @@ module _ (rows : List Row) where
   higher top m f = (let h = f.0 in omega arith, f.1)
 
   case-under : (b top m : ℕ) → case_below rows b top ≡ Some m → CaseUnder top m
-  case-under b zero m e = absurd (let z : ◌≡◌ {A = ℕ} 0 1 = cc in omega arith)
+  case-under b zero m e = cc
   case-under b (suc top) m e = step (is_case_at rows top) refl (eqb (top + 1) b) (eqb (next_at rows top) b) e (case-under top top m) (case-under b top m)
     where
       step : (one : Bool) → is_case_at rows top ≡ one → (near far : Bool) → cond (one && near) (Some top) (cond far (case_below rows top top) (case_below rows b top)) ≡ Some m → (case_below rows top top ≡ Some m → CaseUnder top m) → (case_below rows b top ≡ Some m → CaseUnder top m) → CaseUnder (suc top) m
@@ -153,130 +123,108 @@ module _ (rows : List Row) where
       step true w again = ap (taker_from n) (sym (taker-more t m true w))
       step false w again = taker-more n m false (binds-inner m t n h l w) ∙ again ∙ ap (taker_from n) (sym (taker-more t m false w))
 
-  -- the walk for the taker of row n stands at link t
+  -- the walk for the taker of row n stands at row t
   pub record Walk (n t : ℕ) : Type 0 where
-    pub same : taker_from n (named t) ≡ taker_of rows n
-    pub low : (t ≡ 65535) ⊎ (t < n)
+    pub same : taker_below rows n (suc t) ≡ taker_of rows n
+    pub low : t < n
 
-  module _ (n t : ℕ) (at : Walk n t) (some : t ≢ 65535) where
-    walk-below : t < n
-    walk-below = let l = at.low in omega arith
+  -- where row t is no let, or one whose bound part ends too early, the walk goes on with the taker of t
+  module _ (n t : ℕ) (at : Walk n t) (short : bound_end_at rows t ≤ n) where
+    walk-goes : taker_from n (taker_of rows t) ≡ taker_of rows n
+    walk-goes =
+        let no : binds rows t n ≡ false = grind (arith, nat_tests) in
+        let low = at.low in
+        sym (taker-skips n t t (omega arith) low) ∙ sym (taker-more n t false no) ∙ at.same
 
-    walk_here : taker_below rows n (suc t) ≡ taker_of rows n
-    walk_here = elim (named-is t) [ inl p ↦ absurd (some p.0) | inr p ↦ ap (taker_from n) (sym p.1) ∙ at.same ]
+    pub walk-falls : (u : ℕ) → taker_of rows t ≡ Some u → u < t
+    walk-falls u e = (greatest-below t t u e).under
 
-    -- where row t is no let, or one whose bound part ends too early, the walk goes on with the taker of t
-    module _ (short : bound_end_at rows t ≤ n) (u : ℕ) (next : named u ≡ taker_of rows t) where
-      walk-under : (u ≡ 65535) ⊎ (u < t)
-      walk-under = elim (named-is u) [ inl p ↦ inl p.0 | inr p ↦ inr (greatest-below t t u (sym next ∙ p.1)).under ]
+    pub walk-on : (u : ℕ) → taker_of rows t ≡ Some u → Walk n u
+    walk-on u e =
+        let low = at.low in
+        let under = walk-falls u e in
+        record { same = ap (taker_from n) (sym e) ∙ walk-goes; low = omega arith }
 
-      pub walk-on : Walk n u
-      walk-on =
-          let no : binds rows t n ≡ false = grind (arith, nat_tests) in
-          let below = walk-below in
-          let under = walk-under in
-          record {
-            same = ap (taker_from n) next ∙ sym (taker-skips n t t (omega arith) below) ∙ sym (taker-more n t false no) ∙ walk_here;
-            low = elim under [ inl e ↦ inl e | inr h ↦ inr (omega arith) ];
-          }
-
-      pub walk-falls : depth (named u) < depth (named t)
-      walk-falls =
-          let under = walk-under in
-          elim (named-is t) [
-            | inl p ↦ absurd (some p.0)
-            | inr p ↦ elim (named-is u) [
-              | inl q ↦ let d = ap depth p.1 in let e = ap depth q.1 in omega arith
-              | inr q ↦ let d = ap depth p.1 in let e = ap depth q.1 in let apart = q.0 in omega arith
-            ]
-          ]
+    pub walk-ends : taker_of rows t ≡ None → taker_of rows n ≡ None
+    walk-ends e = sym walk-goes ∙ ap (taker_from n) e
 
   -- the takers of the rows below n are known, and behind the rows there is none
-  pub record Takers (takers : List ℕ) (n : ℕ) : Type 0 where
+  pub record Takers (takers : List (Option ℕ)) (n : ℕ) : Type 0 where
     pub room : length takers ≡ 1024
-    pub known : (k : ℕ) → k < n → named (get_or takers k 0) ≡ taker_of rows k
-    pub behind : (k : ℕ) → length rows ≤ k → k < 1024 → named (get_or takers k 0) ≡ None
+    pub known : (k : ℕ) → k < n → get_or takers k None ≡ taker_of rows k
+    pub behind : (k : ℕ) → length rows ≤ k → get_or takers k None ≡ None
 
-  pub takers-none : (room : ℕ) → room ≡ 1024 → Takers (replicate room 65535) 1
+  pub takers-none : (room : ℕ) → room ≡ 1024 → Takers (replicate room None) 1
   takers-none room e =
       record {
-        room = length-replicate room 65535 ∙ e;
-        known = λ k h. blank room k (omega arith) ∙ ap (taker_of rows) (none k h);
-        behind = λ k h l. blank room k (omega arith);
+        room = length-replicate room None ∙ e;
+        known = λ k h. blank room k ∙ ap (taker_of rows) (none k h);
+        behind = λ k h. blank room k;
       }
     where
       none : (k : ℕ) → k < 1 → 0 ≡ k
       none k h = omega arith
 
   -- The cases of rows up to n are known, of a row behind n what the rows below n say of it, and behind the rows none.
-  pub record Cases (cases : List ℕ) (n : ℕ) : Type 0 where
+  pub record Cases (cases : List (Option ℕ)) (n : ℕ) : Type 0 where
     pub room : length cases ≡ 1024
-    pub known : (k : ℕ) → k ≤ n → k < length rows → named (get_or cases k 0) ≡ case_of rows k
-    pub ahead : (k : ℕ) → n ≤ k → k < length rows → named (get_or cases k 0) ≡ case_below rows k n
-    pub behind : (k : ℕ) → length rows ≤ k → k < 1024 → named (get_or cases k 0) ≡ None
+    pub known : (k : ℕ) → k ≤ n → k < length rows → get_or cases k None ≡ case_of rows k
+    pub ahead : (k : ℕ) → n ≤ k → k < length rows → get_or cases k None ≡ case_below rows k n
+    pub behind : (k : ℕ) → length rows ≤ k → get_or cases k None ≡ None
 
-  pub cases_none : (room : ℕ) → room ≡ 1024 → length rows ≤ 1024 → Cases (replicate room 65535) 0
-  cases_none room e few =
+  pub cases_none : (room : ℕ) → room ≡ 1024 → Cases (replicate room None) 0
+  cases_none room e =
       record {
-        room = length-replicate room 65535 ∙ e;
-        known = λ k h l. blank room k (omega arith) ∙ ap (case_of rows) (none k h);
-        ahead = λ k h l. blank room k (omega arith);
-        behind = λ k h l. blank room k (omega arith);
+        room = length-replicate room None ∙ e;
+        known = λ k h l. blank room k ∙ ap (case_of rows) (none k h);
+        ahead = λ k h l. blank room k;
+        behind = λ k h. blank room k;
       }
     where
       none : (k : ℕ) → k ≤ 0 → 0 ≡ k
       none k h = omega arith
 
   -- links that are known for each row and none behind the rows are those of every number
-  pub links-all : (links : List ℕ) (of' : ℕ → Option ℕ) → length rows ≤ 1024 → ((k : ℕ) → k < length rows → named (get_or links k 0) ≡ of' k) → ((k : ℕ) → length rows ≤ k → k < 1024 → named (get_or links k 0) ≡ None) → (n : ℕ) → link_in links n ≡ cond (ltb n (length rows)) (of' n) None
-  links-all links of' few known behind n = step (ltb n 1024) refl (ltb n (length rows)) refl
+  pub links-all : (links : List (Option ℕ)) (of' : ℕ → Option ℕ) → ((k : ℕ) → k < length rows → get_or links k None ≡ of' k) → ((k : ℕ) → length rows ≤ k → get_or links k None ≡ None) → (n : ℕ) → link_in links n ≡ cond (ltb n (length rows)) (of' n) None
+  links-all links of' known behind n = step (ltb n (length rows)) refl
     where
-      step : (a : Bool) → ltb n 1024 ≡ a → (b : Bool) → ltb n (length rows) ≡ b → cond a (named (get_or links n 0)) None ≡ cond b (of' n) None
-      step true x true y = known n (ltb-true n (length rows) y)
-      step true x false y = behind n (ltb-false n (length rows) y) (ltb-true n 1024 x)
-      step false x true y = absurd (let p = ltb-false n 1024 x in let q = ltb-true n (length rows) y in omega arith)
-      step false x false y = refl
+      step : (b : Bool) → ltb n (length rows) ≡ b → get_or links n None ≡ cond b (of' n) None
+      step true y = known n (ltb-true n (length rows) y)
+      step false y = behind n (ltb-false n (length rows) y)
 
-  -- the row that row n leads to
-  abbrev pub leads : ℕ → ℕ
-  leads n = cond (is_case_at rows n) (n + 1) (next_at rows n)
-
-  pub lead-here : (b n : ℕ) → n < b → leads n ≡ b → case_below rows b (suc n) ≡ cond (is_case_at rows n) (Some n) (case_of rows n)
+  pub lead-here : (b n : ℕ) → n < b → leads rows n ≡ b → case_below rows b (suc n) ≡ cond (is_case_at rows n) (Some n) (case_of rows n)
   lead-here b n h e = grind (arith, nat_tests)
 
-  pub lead-other : (b n : ℕ) → n < b → leads n ≢ b → case_below rows b (suc n) ≡ case_below rows b n
+  pub lead-other : (b n : ℕ) → n < b → leads rows n ≢ b → case_below rows b (suc n) ≡ case_below rows b n
   lead-other b n h d = let none = case-next (slice_get rows n) in grind (arith, nat_tests)
 
-  module _ (cases : List ℕ) (n : ℕ) (at : Cases cases n) (below : n < length rows) (few : length rows ≤ 1024) where
+  module _ (cases : List (Option ℕ)) (n : ℕ) (at : Cases cases n) (below : n < length rows) (few : length rows ≤ 1024) where
     -- one row more, where the rows up to n keep their cases
-    cases-more : (after : List ℕ) → length after ≡ 1024 → ((k : ℕ) → k ≤ n → get_or after k 0 ≡ get_or cases k 0) → ((k : ℕ) → n < k → k < length rows → named (get_or after k 0) ≡ case_below rows k (suc n)) → ((k : ℕ) → length rows ≤ k → k < 1024 → named (get_or after k 0) ≡ None) → Cases after (n + 1)
+    cases-more : (after : List (Option ℕ)) → length after ≡ 1024 → ((k : ℕ) → k ≤ n → get_or after k None ≡ get_or cases k None) → ((k : ℕ) → n < k → k < length rows → get_or after k None ≡ case_below rows k (suc n)) → ((k : ℕ) → length rows ≤ k → get_or after k None ≡ None) → Cases after (n + 1)
     cases-more after room kept new behind =
         record {
           room = room;
           known = λ k h l. elim (cases_eq k (suc n)) [
             | inl q ↦ new k (omega arith) l ∙ ap (case_below rows k) (sym q)
-            | inr d ↦ ap named (kept k (omega arith)) ∙ at.known k (omega arith) l
+            | inr d ↦ kept k (omega arith) ∙ at.known k (omega arith) l
           ];
           ahead = λ k h l. new k (omega arith) l ∙ ap (case_below rows k) (sym (add-one n));
           behind = behind;
         }
 
     -- row n leads to a row behind it, where its case is noted
-    pub cases-noted : (to from : ℕ) → to ≡ leads n → from ≡ cond (is_case_at rows n) n (get_or cases n 0) → n < to → to < length rows → Cases (set cases to from) (n + 1)
+    pub cases-noted : (to : ℕ) (from : Option ℕ) → to ≡ leads rows n → from ≡ cond (is_case_at rows n) (Some n) (get_or cases n None) → n < to → to < length rows → Cases (set cases to from) (n + 1)
     cases-noted to from e f h l =
         let room = at.room in
+        let own : cond (is_case_at rows n) (Some n) (get_or cases n None) ≡ cond (is_case_at rows n) (Some n) (case_of rows n) = ap (cond (is_case_at rows n) (Some n)) (at.known n (omega arith) below) in
         cases-more (set cases to from) (length-set cases to from ∙ room)
-        (λ k m. get_or-set_other cases to k from 0 (omega arith))
+        (λ k m. get_or-set_other cases to k from None (omega arith))
         (λ k m p. elim (cases_eq k to) [
-          | inl q ↦ ap (λ k. named (get_or (set cases to from) k 0)) q ∙ ap named (get_or-set_same cases to from 0 (omega arith)) ∙ ap named f ∙ own (is_case_at rows n) ∙ sym (lead-here k n m (sym e ∙ sym q))
-          | inr d ↦ ap named (get_or-set_other cases to k from 0 d) ∙ at.ahead k (omega arith) p ∙ sym (lead-other k n m (λ r. d (sym r ∙ sym e)))
+          | inl q ↦ ap (λ k. get_or (set cases to from) k None) q ∙ get_or-set_same cases to from None (omega arith) ∙ f ∙ own ∙ sym (lead-here k n m (sym e ∙ sym q))
+          | inr d ↦ get_or-set_other cases to k from None d ∙ at.ahead k (omega arith) p ∙ sym (lead-other k n m (λ r. d (sym r ∙ sym e)))
         ])
-        (λ k m p. ap named (get_or-set_other cases to k from 0 (omega arith)) ∙ at.behind k m p)
-      where
-        own : (b : Bool) → named (cond b n (get_or cases n 0)) ≡ cond b (Some n) (case_of rows n)
-        own true = elim (named-is n) [ inl p ↦ absurd (let q = p.0 in omega arith) | inr p ↦ p.1 ]
-        own false = at.known n (omega arith) below
+        (λ k m. get_or-set_other cases to k from None (omega arith) ∙ at.behind k m)
 
     -- it leads to none, or to one that is none of the rows behind it
-    pub cases-kept : (to : ℕ) → to ≡ leads n → (to ≤ n) ⊎ (length rows ≤ to) → Cases cases (n + 1)
-    cases-kept to e out = cases-more cases at.room (λ k m. refl) (λ k m p. at.ahead k (omega arith) p ∙ sym (lead-other k n m (λ r. let q = e ∙ r in omega arith))) at.behind
+    pub cases-kept : (leads rows n ≤ n) ⊎ (length rows ≤ leads rows n) → Cases cases (n + 1)
+    cases-kept out = cases-more cases at.room (λ k m. refl) (λ k m p. at.ahead k (omega arith) p ∙ sym (lead-other k n m (λ r. omega arith))) at.behind

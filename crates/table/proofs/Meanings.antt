@@ -1,8 +1,6 @@
 -- Layer 2, first part, test by test.
-use Rattle.std.proofs.Common.{◌≡◌, ℕ, ◌-◌, ◌*◌, false, eqb, List, length, get_or, take, drop, Ok, Err, Result, sym, ap, ◌∙◌, zero-add, arith}
-use Rattle.std.specs.List.{slice_get}
+use Rattle.std.proofs.Common.{◌≡◌, ℕ, ◌-◌, ◌*◌, eqb, List, length, get_or, take, drop, Ok, Err, sym, ap, ◌∙◌, zero-add, arith}
 use Rattle.std.proofs.lemmas.List.{length-take, length-drop, length-take-le}
-use Rattle.packed.specs.declared.fault.Fault.{Fault}
 use Rattle.packed.specs.declared.fault.Reason.TheVariants as reason
 use Rattle.packed.specs.declared.shapes.Shapes.{Shapes}
 use Rattle.packed.specs.Forms.{either, limit_of, numbered}
@@ -11,14 +9,15 @@ use Rattle.table.specs.declared.function.Function.{Function}
 use Rattle.table.specs.declared.section.Section.{Section}
 use Rattle.table.specs.declared.section.Layout.{Layout}
 use Rattle.table.specs.Rows.{row_of}
-use Rattle.table.specs.Sections.{onward, given, within}
+use Rattle.packed.specs.Faults.{given}
+use Rattle.table.specs.Sections.{within}
 use Rattle.table.specs.Laid.{Lies, Laid}
-use Rattle.table.specs.Meaning.{fair_function, Terms, fair_row, first_unfair}
+use Rattle.table.specs.Meaning.{Terms, fair_row, first_unfair}
 use Rattle.table.specs.Order.{rows_from}
 use Rattle.table.proofs.Laying.{onward-ok}
 use Rattle.table.proofs.Judging.{all-fair-at}
 use Rattle.table.proofs.Rowing.{rows_all, row-from-test}
-use Rattle.table.specs.Table.{sizes_in, constructors_in, functions_in, terms_in, limit_fault, meaning_of}
+use Rattle.table.specs.Table.{sizes_in, constructors_in, functions_in, fair_function_at, fair_row_at, terms_in, limit_fault, meaning_of}
 
 pub length-within : (width : ℕ) (bs : List ℕ) (at : ℕ) (s : Section) → Lies width bs at s → length (within bs s) ≡ s.count * width
 length-within width bs at s l =
@@ -41,25 +40,12 @@ module _ (bs : List ℕ) (l : Layout) (fine : Laid bs l) where
     pub terms-same : (functions : List Function) → functions ≡ functions_in bs l → ◌≡◌ {A = Terms} (record { types = s.types; forms = forms_of s; functions = functions }) (terms_in bs l)
     terms-same functions f = λ i. record { types = types_same i; forms = forms i; functions = f i }
 
-  abbrev Functions : List Function → Result (Unit {0}) Fault
-  Functions fs = first_unfair (λ i. either (slice_get fs i) false (fair_function l.types.count i)) l.functions.start 8 0 l.functions.count
-
-  abbrev Rows : Terms → Result (Unit {0}) Fault
-  Rows t = first_unfair (λ i. either (row_of (take 16 (drop (i * 16) (within bs l.rows)))) false (fair_row t)) l.rows.start 16 0 l.rows.count
-
-  -- the last test decides where the ones before it passed
-  pub meaning-rows : (u v w : Unit {0}) → given (eqb (get_or bs 0 0) 1) reason.Meaning 2 0 ≡ Ok u → either (limit_of (sizes_in bs l) (constructors_in bs l)) (Ok (tt {0})) (λ b. Err (limit_fault l b)) ≡ Ok v → Functions (functions_in bs l) ≡ Ok w → meaning_of bs l ≡ Rows (terms_in bs l)
-  meaning-rows u v w a b c =
-      ap (λ r. onward r (λ _. onward (either (limit_of (sizes_in bs l) (constructors_in bs l)) (Ok (tt {0})) (λ b. Err (limit_fault l b))) (λ _. onward (Functions (functions_in bs l)) (λ _. Rows (terms_in bs l))))) a
-      ∙ ap (λ r. onward r (λ _. onward (Functions (functions_in bs l)) (λ _. Rows (terms_in bs l)))) b
-      ∙ ap (λ r. onward r (λ _. Rows (terms_in bs l))) c
-
   -- in a table whose numbers have meaning every row is one
   pub meaning-whole : (u : Unit {0}) → meaning_of bs l ≡ Ok u → length (rows_from l.rows.count (within bs l.rows)) ≡ l.rows.count
   meaning-whole u e =
       let a = onward-ok (given (eqb (get_or bs 0 0) 1) reason.Meaning 2 0) _ u e in
       let b = onward-ok (either (limit_of (sizes_in bs l) (constructors_in bs l)) (Ok (tt {0})) (λ b. Err (limit_fault l b))) _ u a.2 in
-      let c = onward-ok (Functions (functions_in bs l)) _ u b.2 in
+      let c = onward-ok (first_unfair (fair_function_at bs l) l.functions.start 8 0 l.functions.count) _ u b.2 in
       rows_all l.rows.count (within bs l.rows) (λ k h.
       row-from-test (row_of (take 16 (drop (k * 16) (within bs l.rows)))) (fair_row (terms_in bs l))
-      (ap (λ n. either (row_of (take 16 (drop (n * 16) (within bs l.rows)))) false (fair_row (terms_in bs l))) (sym (zero-add k)) ∙ all-fair-at (λ i. either (row_of (take 16 (drop (i * 16) (within bs l.rows)))) false (fair_row (terms_in bs l))) l.rows.start 16 0 l.rows.count u c.2 k h))
+      (ap (fair_row_at bs l) (sym (zero-add k)) ∙ all-fair-at (fair_row_at bs l) l.rows.start 16 0 l.rows.count u c.2 k h))

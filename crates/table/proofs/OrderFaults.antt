@@ -38,7 +38,7 @@ module _ (rows : List Row) (firsts : List ℕ) where
 
   -- and the row that is named is one
   found : (due : List Due) (rest : List Row) (n p : ℕ) → Reading rows firsts due n → drop n rows ≡ rest → disorder due rest n ≡ Some p → Faulty rows firsts p
-  found [] [] n p before e o = absurd (let z : ◌≡◌ {A = ℕ} 0 1 = cc in omega arith)
+  found [] [] n p before e o = cc
   found [] (r ∷ rest) n p before e o = let same : n ≡ p = cc in subst (Faulty rows firsts) same (over before (row-of-drop rows n r rest e).0)
   found (d ∷ due) [] n p before e o =
       elim (least-from (misnamed d n) (Some n) p o) [

@@ -11,10 +11,10 @@ use Rattle.table.specs.Spans.Spans.{variable, number, sum, difference, region, s
 use Rattle.table.specs.Spans.Branches.{last, more}
 use Rattle.table.specs.Spans.Bodies.{none, body as standing}
 use Rattle.table.proofs.Leasts.{least-none-left, least-none-right}
-use Rattle.table.proofs.Walking.{row_below, row-of-drop, from_row, later-is, further-is, furthers-one}
+use Rattle.table.proofs.Walking.{row_below, row-of-drop, body_is, from_row, later-is, further-is, furthers-one}
 
 no_way : {X : Type 0} → false ≡ true → X
-no_way e = absurd (let z : ◌≡◌ {A = ℕ} 0 1 = cc in omega arith)
+no_way e = cc
 
 and-true : (a b : Bool) → (a && b) ≡ true → (a ≡ true) × (b ≡ true)
 and-true true b e = (refl, e)
@@ -23,11 +23,11 @@ and-true false b e = no_way e
 -- a name for row n that is no misnaming
 named_here : (b : Bool) (m n h : ℕ) → eqb h n ≡ b → cond {A = Option ℕ} b None (Some m) ≡ None → h ≡ n
 named_here true m n h e o = eqb-true h n e
-named_here false m n h e o = absurd (let z : ◌≡◌ {A = ℕ} 0 1 = cc in omega arith)
+named_here false m n h e o = cc
 
 cond-none : (b : Bool) (o : Option ℕ) (n : ℕ) → cond b o (Some n) ≡ None → (b ≡ true) × (o ≡ None)
 cond-none true o n e = (refl, e)
-cond-none false o n e = absurd (let z : ◌≡◌ {A = ℕ} 0 1 = cc in omega arith)
+cond-none false o n e = cc
 
 -- Bodies that stand are read to the end.
 module _ (rows : List Row) where
@@ -36,10 +36,10 @@ module _ (rows : List Row) where
   read due n = disorder due (drop n rows) n
 
   child-on : (n : ℕ) (r : Row) (due : List Due) → slice_get rows n ≡ Some r → is_branch r ≡ false → read (child ∷ due) n ≡ read (children n r ++ due) (n + 1)
-  child-on n r due e k = from_row rows record { end = n; lowest = None } child due r true refl e (ap not k)
+  child-on n r due e k = from_row rows n None child due r true refl e (ap not k)
 
   branch-on : (n : ℕ) (r : Row) (due : List Due) → slice_get rows n ≡ Some r → is_branch r ≡ true → read (branch ∷ due) n ≡ read (children n r ++ due) (n + 1)
-  branch-on n r due e k = from_row rows record { end = n; lowest = None } branch due r true refl e k
+  branch-on n r due e k = from_row rows n None branch due r true refl e k
 
   later-here : (m n : ℕ) (due : List Due) → read (later m n ∷ due) n ≡ read (child ∷ due) n
   later-here m n due = later-is (drop n rows) n m n due ∙ ap (λ b. least (cond b None (Some m)) (read (child ∷ due) n)) (eq-eqb n n refl)
@@ -49,10 +49,6 @@ module _ (rows : List Row) where
       ap (λ l. read (l ++ due) n) (furthers-one m n (λ z. omega arith))
       ∙ further-is (drop n rows) n m n due
       ∙ ap (λ b. least (cond b None (Some m)) (read (branch ∷ due) n)) (eq-eqb n n refl)
-
-  body_is : (rest : List Row) (n : ℕ) (due : List Due) → disorder (body n ∷ due) rest n ≡ disorder (child ∷ due) rest n
-  body_is [] n due = refl
-  body_is (r ∷ rest) n due = ap (λ b. cond (b && not (is_branch r)) (disorder (children n r ++ due) rest (n + 1)) (Some n)) (eq-eqb n n refl)
 
   mutual
     spans_on : {n e : ℕ} → Spans rows n e → (due : List Due) → read (child ∷ due) n ≡ read due e
@@ -112,19 +108,6 @@ module _ (rows : List Row) where
   child-filled n (row.Branch form x0 l0 h) due here k f = no_way (sym k)
 
   branch-filled : (n : ℕ) (r : Row) (due : List Due) → slice_get rows n ≡ Some r → is_branch r ≡ true → Filled (children n r ++ due) (n + 1) → (e : ℕ) × Branches rows n e × Filled due e
-  branch-filled n (row.Variable x) due here k f = no_way k
-  branch-filled n (row.Number value) due here k f = no_way k
-  branch-filled n (row.Sum x y) due here k f = no_way k
-  branch-filled n (row.Difference x y) due here k f = no_way k
-  branch-filled n (row.Region r room) due here k f = no_way k
-  branch-filled n (row.Start l r) due here k f = no_way k
-  branch-filled n (row.Past l m k') due here k f = no_way k
-  branch-filled n (row.After l m t) due here k f = no_way k
-  branch-filled n (row.Construct form l v0 v1 v2 v3 v4 v5 v6 v7) due here k f = no_way k
-  branch-filled n (row.Let x kind l h) due here k f = no_way k
-  branch-filled n (row.Test x y h) due here k f = no_way k
-  branch-filled n (row.Call g l v0 v1 v2 v3) due here k f = no_way k
-  branch-filled n (row.Case x) due here k f = no_way k
   branch-filled n (row.Branch form x0 l0 h) due here k f = split (eqb h 0) refl f
     where
       split : (b : Bool) → eqb h 0 ≡ b → Filled (child ∷ (cond b [] (further n h ∷ []) ++ due)) (n + 1) → (e : ℕ) × Branches rows n e × Filled due e
@@ -133,6 +116,7 @@ module _ (rows : List Row) where
           let same = f.2.1.0 in
           let positive = eqb_apart h 0 some-h in
           (f.2.0, more (here ∙ ap (λ m. Some (row.Branch form x0 l0 m)) same) (omega arith) f.1 f.2.1.1, f.2.2)
+  branch-filled n _ due here k f = no_way k
 
   filled_on : (d : Due) (n : ℕ) (r : Row) (due : List Due) → slice_get rows n ≡ Some r → misnamed d n ≡ None → stands d n r ≡ true → Filled (children n r ++ due) (n + 1) → Filled (d ∷ due) n
   filled_on (body h) n r due here m s f =
@@ -150,7 +134,7 @@ module _ (rows : List Row) where
 
   filled : (due : List Due) (rest : List Row) (n : ℕ) → drop n rows ≡ rest → n ≤ length rows → disorder due rest n ≡ None → Filled due n
   filled [] [] n e h o = let l = length-drop n rows in let z = ap length e in omega arith
-  filled [] (r ∷ rest) n e h o = absurd (let z : ◌≡◌ {A = ℕ} 0 1 = cc in omega arith)
+  filled [] (r ∷ rest) n e h o = cc
   filled (d ∷ due) [] n e h o = absurd (let q = least-none-right (misnamed d n) (Some n) o in let z : ◌≡◌ {A = ℕ} 0 1 = cc in omega arith)
   filled (d ∷ due) (r ∷ rest) n e h o =
       let at = row-of-drop rows n r rest e in

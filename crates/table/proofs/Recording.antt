@@ -1,7 +1,9 @@
 -- Records of one width, one by one.
-use Rattle.std.proofs.Common.{◌≡◌, ℕ, zero, suc, ◌+◌, ◌*◌, ◌<◌, List, [], ◌∷◌, ◌++◌, length, take, drop, Some, sym, refl, ap, ◌∙◌, suc-mul, zero-mul, arith}
+use Rattle.std.proofs.Common.{◌≡◌, ℕ, zero, suc, ◌+◌, ◌*◌, ◌<◌, Bool, true, false, cond, ltb, List, length, take, drop, Some, None, sym, refl, ap, ◌∙◌, suc-mul, zero-mul, arith}
 use Rattle.std.specs.List.{slice_get}
 use Rattle.std.proofs.lemmas.List.{drop-drop}
+use Rattle.std.proofs.lemmas.Bool.{ltb-true, ltb-false}
+use Rattle.std.proofs.lemmas.Option.{slice_get_past}
 use Rattle.table.specs.Meaning.{records_from}
 
 module _ {A : Type 0} (width : ℕ) (describes : List ℕ → A) where
@@ -17,12 +19,10 @@ module _ {A : Type 0} (width : ℕ) (describes : List ℕ → A) where
       records-nth count (drop width bs) n (omega arith)
       ∙ ap (λ l. Some (describes (take width l))) (drop-drop (n * width) width bs ∙ ap (λ k. drop k bs) far)
 
-  -- one record more
-  pub records-push : (n : ℕ) (bs : List ℕ) → records_from width describes (n + 1) bs ≡ records_from width describes n bs ++ describes (take width (drop (n * width) bs)) ∷ []
-  records-push zero bs = ap (λ k. describes (take width (drop k bs)) ∷ []) (sym (zero-mul width))
-  records-push (suc n) bs =
-      let more : suc n + 1 ≡ suc (n + 1) = omega arith in
-      let far : width + n * width ≡ suc n * width = let e = suc-mul n width in omega arith in
-      ap (λ k. records_from width describes k bs) more
-      ∙ ap (λ l. describes (take width bs) ∷ l) (records-push n (drop width bs))
-      ∙ ap (λ l. describes (take width bs) ∷ (records_from width describes n (drop width bs) ++ describes (take width l) ∷ [])) (drop-drop (n * width) width bs ∙ ap (λ k. drop k bs) far)
+  -- what is got at a number
+  pub records-get : (count : ℕ) (bs : List ℕ) (n : ℕ) → cond (ltb n count) (Some (describes (take width (drop (n * width) bs)))) None ≡ slice_get (records_from width describes count bs) n
+  records-get count bs n = test (ltb n count) refl
+    where
+      test : (v : Bool) → ltb n count ≡ v → cond v (Some (describes (take width (drop (n * width) bs)))) None ≡ slice_get (records_from width describes count bs) n
+      test true e = sym (records-nth count bs n (ltb-true n count e))
+      test false e = let all = length-records count bs in let past = ltb-false n count e in sym (slice_get_past (records_from width describes count bs) n (omega arith))

@@ -9,7 +9,8 @@ use Rattle.table.specs.declared.section.Section.{Section}
 use Rattle.table.specs.declared.section.Layout.{Layout}
 use Rattle.table.specs.Rows.{word}
 use Rattle.table.specs.Laid.{Lies}
-use Rattle.table.specs.Sections.{onward, found, given, in_range, within, section_of, sections_of, counts_of, layout_of}
+use Rattle.packed.specs.Faults.{found, given}
+use Rattle.table.specs.Sections.{onward, in_range, within, section_of, sections_of, counts_of, layout_of}
 use Rattle.table.specs.Meaning.{first_unfair}
 use Rattle.table.specs.Table.{constructors_in, fair_function_at, fair_row_at, functions_in, limit_fault, meaning_of, order_of, rows_in, sizes_in, table_of}
 use Rattle.table.specs.First.{Reached, Cut, Miscounted, Unmeant, First}

@@ -1,5 +1,6 @@
 -- Rows and their bytes, both ways.
 use Rattle.std.proofs.Common.{◌≡◌, ℕ, zero, suc, ◌+◌, ◌*◌, ◌/◌, ◌%◌, ◌<◌, ◌≤◌, Bool, true, false, cond, eqb, List, [], ◌∷◌, ◌++◌, length, get_or, take, drop, Some, None, Option, sym, refl, ap, ◌∙◌, arith}
+use Rattle.std.specs.Bool.{then_some}
 use Rattle.std.proofs.lemmas.Bool.Decides.{nat_tests}
 use Rattle.packed.specs.Packing.{joined, integer}
 use Rattle.packed.specs.Trees.{low}
@@ -62,9 +63,9 @@ zeros-padded (b ∷ bs) e =
 closed-back : (q r : Row) (front rest : List ℕ) → row_bytes q ≡ front ++ padded (length rest) [] → closed q rest ≡ Some r → row_bytes r ≡ front ++ rest
 closed-back q r front rest whole e = step (zeros rest) refl e
   where
-    step : (b : Bool) → zeros rest ≡ b → cond b (Some q) None ≡ Some r → row_bytes r ≡ front ++ rest
+    step : (b : Bool) → zeros rest ≡ b → then_some b q ≡ Some r → row_bytes r ≡ front ++ rest
     step true z k = let same : r ≡ q = cc in ap row_bytes same ∙ whole ∙ ap (λ l. front ++ l) (sym (zeros-padded rest z))
-    step false z k = absurd (let x : ◌≡◌ {A = ℕ} 0 1 = cc in omega arith)
+    step false z k = cc
 
 -- one kind among others
 kind-back : (k n : ℕ) (bs : List ℕ) (r : Row) (this others : Option Row) → (this ≡ Some r → row_bytes r ≡ n ∷ bs) → (others ≡ Some r → row_bytes r ≡ k ∷ bs) → cond (eqb k n) this others ≡ Some r → row_bytes r ≡ k ∷ bs
@@ -109,7 +110,7 @@ module _ (r : Row) (k a b c d e f g h i j l m n o p : ℕ) (small : (at : ℕ) �
   branch_back = by-closing 13 5 (row.Branch a b c (d + 256 * e)) (ap (λ l. 13 ∷ a ∷ b ∷ c ∷ (l ++ padded 10 [])) (low_word d e (small 4) (small 5)))
 
   none-back : None ≡ Some r → row_bytes r ≡ k ∷ operands
-  none-back e = absurd (let x : ◌≡◌ {A = ℕ} 0 1 = cc in omega arith)
+  none-back e = cc
 
   kinds-back : operands_of k operands ≡ Some r → row_bytes r ≡ k ∷ operands
   kinds-back =

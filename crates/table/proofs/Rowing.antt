@@ -1,7 +1,9 @@
 -- The rows of bytes, one by one.
-use Rattle.std.proofs.Common.{◌≡◌, ℕ, zero, suc, ◌+◌, ◌*◌, ◌<◌, Bool, true, false, List, [], ◌∷◌, length, take, drop, Some, None, Option, sym, refl, ap, ◌∙◌, arith}
+use Rattle.std.proofs.Common.{◌≡◌, ℕ, zero, suc, ◌+◌, ◌*◌, ◌<◌, Bool, true, false, cond, ltb, List, [], ◌∷◌, length, take, drop, Some, None, Option, sym, refl, ap, ◌∙◌, arith}
 use Rattle.std.specs.List.{slice_get}
 use Rattle.std.proofs.lemmas.List.{drop-drop}
+use Rattle.std.proofs.lemmas.Bool.{ltb-true, ltb-false}
+use Rattle.std.proofs.lemmas.Option.{slice_get_past}
 use Rattle.packed.specs.Forms.{either}
 use Rattle.table.specs.declared.row.Row.{Row}
 use Rattle.table.specs.Rows.{row_of}
@@ -11,19 +13,27 @@ pub rows_on : (count : ℕ) (bs : List ℕ) (o : Option Row) → row_of (take 16
 rows_on count bs o e = ap (λ o. either o [] (λ r. r ∷ rows_from count (drop 16 bs))) e
 
 -- where every row is one, row n is that of its sixteen bytes
-pub rows-nth : (count : ℕ) (bs : List ℕ) (n : ℕ) → length (rows_from count bs) ≡ count → n < count → slice_get (rows_from count bs) n ≡ row_of (take 16 (drop (16 * n) bs))
+pub rows-nth : (count : ℕ) (bs : List ℕ) (n : ℕ) → length (rows_from count bs) ≡ count → n < count → slice_get (rows_from count bs) n ≡ row_of (take 16 (drop (n * 16) bs))
 rows-nth zero bs n all h = absurd (omega arith)
 rows-nth (suc count) bs n all h = step n (row_of (take 16 bs)) refl h (λ m l k. rows-nth count (drop 16 bs) m l k)
   where
-    step : (n : ℕ) (o : Option Row) → row_of (take 16 bs) ≡ o → n < suc count → ((m : ℕ) → length (rows_from count (drop 16 bs)) ≡ count → m < count → slice_get (rows_from count (drop 16 bs)) m ≡ row_of (take 16 (drop (16 * m) (drop 16 bs)))) → slice_get (rows_from (suc count) bs) n ≡ row_of (take 16 (drop (16 * n) bs))
+    step : (n : ℕ) (o : Option Row) → row_of (take 16 bs) ≡ o → n < suc count → ((m : ℕ) → length (rows_from count (drop 16 bs)) ≡ count → m < count → slice_get (rows_from count (drop 16 bs)) m ≡ row_of (take 16 (drop (m * 16) (drop 16 bs)))) → slice_get (rows_from (suc count) bs) n ≡ row_of (take 16 (drop (n * 16) bs))
     step n None e h again = absurd (let l = ap length (rows_on count bs None e) in omega arith)
     step zero (Some r) e h again = ap (λ l. slice_get l 0) (rows_on count bs (Some r) e) ∙ sym e
     step (suc n) (Some r) e h again =
         let l = ap length (rows_on count bs (Some r) e) in
-        let far : 16 + 16 * n ≡ 16 * suc n = omega arith in
+        let far : 16 + n * 16 ≡ suc n * 16 = omega arith in
         ap (λ l. slice_get l (suc n)) (rows_on count bs (Some r) e)
         ∙ again n (omega arith) (omega arith)
-        ∙ ap (λ l. row_of (take 16 l)) (drop-drop (16 * n) 16 bs ∙ ap (λ k. drop k bs) far)
+        ∙ ap (λ l. row_of (take 16 l)) (drop-drop (n * 16) 16 bs ∙ ap (λ k. drop k bs) far)
+
+-- what is got at a number
+pub rows-get : (count : ℕ) (bs : List ℕ) (n : ℕ) → length (rows_from count bs) ≡ count → cond (ltb n count) (row_of (take 16 (drop (n * 16) bs))) None ≡ slice_get (rows_from count bs) n
+rows-get count bs n all = test (ltb n count) refl
+  where
+    test : (v : Bool) → ltb n count ≡ v → cond v (row_of (take 16 (drop (n * 16) bs))) None ≡ slice_get (rows_from count bs) n
+    test true e = sym (rows-nth count bs n all (ltb-true n count e))
+    test false e = let past = ltb-false n count e in sym (slice_get_past (rows_from count bs) n (omega arith))
 
 -- where each sixteen bytes are a row, all rows are there
 pub rows_all : (count : ℕ) (bs : List ℕ) → ((k : ℕ) → k < count → (r : Row) × (row_of (take 16 (drop (k * 16) bs)) ≡ Some r)) → length (rows_from count bs) ≡ count
@@ -38,5 +48,5 @@ rows_all (suc count) bs each =
 
 -- a test of a row that must be one
 pub row-from-test : (o : Option Row) (test : Row → Bool) → either o false test ≡ true → (r : Row) × (o ≡ Some r)
-row-from-test None test e = absurd (let z : ◌≡◌ {A = ℕ} 0 1 = cc in omega arith)
+row-from-test None test e = absurd (grind arith)
 row-from-test (Some r) test e = (r, refl)

@@ -1,17 +1,8 @@
 -- The bytes of records, one record at a time.
-use Rattle.std.proofs.Common.{◌≡◌, ℕ, ◌+◌, ◌<◌, List, [], ◌∷◌, ◌++◌, length, get_or, take, Some, sym, refl, ap, ◌∙◌, arith}
+use Rattle.std.proofs.Common.{◌≡◌, ℕ, ◌+◌, ◌<◌, List, [], ◌∷◌, ◌++◌, length, get_or, take, Some, sym, refl, ap, ◌∙◌}
 use Rattle.std.specs.List.{slice_get}
 use Rattle.std.proofs.lemmas.List.{append_assoc, append-nil, take_more}
-use Rattle.table.specs.Writing.{four, spelt}
-
--- four places are all of four
-pub four_same : (xs : List ℕ) → length xs ≡ 4 → four xs ≡ xs
-four_same [] e = absurd (omega arith)
-four_same (a ∷ []) e = absurd (omega arith)
-four_same (a ∷ b ∷ []) e = absurd (omega arith)
-four_same (a ∷ b ∷ c ∷ []) e = absurd (omega arith)
-four_same (a ∷ b ∷ c ∷ d ∷ []) e = refl
-four_same (a ∷ b ∷ c ∷ d ∷ x ∷ xs) e = absurd (omega arith)
+use Rattle.table.specs.Writing.{spelt}
 
 module _ {A : Type 0} (spell : A → List ℕ) where
   pub spelt-append : (xs ys : List A) → spelt spell (xs ++ ys) ≡ spelt spell xs ++ spelt spell ys

@@ -33,17 +33,9 @@ row_bytes r = padded 16 (spelled r)
 
 -- a row as the code holds it: words of 16 bits and integers of 64
 abbrev pub Held : Row → Type 0
-Held (row.Variable x) = Unit {0}
 Held (row.Number value) = FitsSigned w64 value
-Held (row.Sum x y) = Unit {0}
-Held (row.Difference x y) = Unit {0}
 Held (row.Region r room) = room < 65536
-Held (row.Start l r) = Unit {0}
-Held (row.Past l m k) = Unit {0}
-Held (row.After l m t) = Unit {0}
-Held (row.Construct form l v0 v1 v2 v3 v4 v5 v6 v7) = Unit {0}
 Held (row.Let x kind l body) = body < 65536
 Held (row.Test x y other) = other < 65536
-Held (row.Call f l v0 v1 v2 v3) = Unit {0}
-Held (row.Case x) = Unit {0}
 Held (row.Branch form x0 l0 next) = next < 65536
+Held _ = Unit {0}

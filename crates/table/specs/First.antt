@@ -7,7 +7,8 @@ use Rattle.packed.specs.Forms.{limit_of, total}
 use Rattle.table.specs.declared.section.Section.{Section}
 use Rattle.table.specs.declared.section.Layout.{Layout}
 use Rattle.table.specs.Rows.{word}
-use Rattle.table.specs.Sections.{found, in_range, within}
+use Rattle.packed.specs.Faults.{found}
+use Rattle.table.specs.Sections.{in_range, within}
 use Rattle.table.specs.Laid.{Lies, Laid}
 use Rattle.table.specs.Faults.{Faulty}
 use Rattle.table.specs.Table.{limit_fault, sizes_in, constructors_in, functions_in, rows_in, fair_function_at, fair_row_at}

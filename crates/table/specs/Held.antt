@@ -8,7 +8,7 @@ use Rattle.table.specs.Meaning.{records_from, function_of}
 use Rattle.table.specs.Order.{rows_from}
 
 abbrev pub rows_of : Rows → List Row
-rows_of s = rows_from s.count s.bytes.now
+rows_of s = rows_from s.records.count s.records.bytes.now
 
 abbrev pub functions_of : Functions → List Function
-functions_of s = records_from 8 function_of s.count s.bytes.now
+functions_of s = records_from 8 function_of s.records.count s.records.bytes.now

@@ -1,14 +1,10 @@
 -- What links hold.
-use Rattle.std.specs.Prelude.{ℕ, cond, List, Some, None, Option, ◌==◌, nat_lt, slice_index}
+use Rattle.std.specs.Prelude.{ℕ, List, None, Option, slice_index_or}
 use Rattle.table.specs.declared.links.Links.{Links}
 
--- the row that a link names, where 65535 names none
-abbrev pub named : ℕ → Option ℕ
-named link = cond (link == 65535) None (Some link)
-
--- the row that link n of 1,024 names
-abbrev pub link_in : List ℕ → ℕ → Option ℕ
-link_in links n = cond (nat_lt n 1024) (named (slice_index links n)) None
+-- the row that link n names; past the last link there is none
+abbrev pub link_in : List (Option ℕ) → ℕ → Option ℕ
+link_in links n = slice_index_or links n None
 
 abbrev pub taker_in : Links → ℕ → Option ℕ
 taker_in s n = link_in s.takers n

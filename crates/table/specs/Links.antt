@@ -7,53 +7,17 @@ use Rattle.table.specs.declared.row.Row.TheVariants as row
 
 -- the row at which the bound part of a let ends and its body starts; 0 for a row that is no let
 abbrev pub bound_end : Row → ℕ
-bound_end (row.Variable x) = 0
-bound_end (row.Number value) = 0
-bound_end (row.Sum x y) = 0
-bound_end (row.Difference x y) = 0
-bound_end (row.Region r room) = 0
-bound_end (row.Start l r) = 0
-bound_end (row.Past l m k) = 0
-bound_end (row.After l m t) = 0
-bound_end (row.Construct form l v0 v1 v2 v3 v4 v5 v6 v7) = 0
 bound_end (row.Let x kind l start) = start
-bound_end (row.Test x y other) = 0
-bound_end (row.Call f l v0 v1 v2 v3) = 0
-bound_end (row.Case x) = 0
-bound_end (row.Branch form x0 l0 next) = 0
+bound_end _ = 0
 
 -- the branch that a branch names behind itself; 0 where it names none, and for a row that is no branch
 abbrev pub next_branch : Row → ℕ
-next_branch (row.Variable x) = 0
-next_branch (row.Number value) = 0
-next_branch (row.Sum x y) = 0
-next_branch (row.Difference x y) = 0
-next_branch (row.Region r room) = 0
-next_branch (row.Start l r) = 0
-next_branch (row.Past l m k) = 0
-next_branch (row.After l m t) = 0
-next_branch (row.Construct form l v0 v1 v2 v3 v4 v5 v6 v7) = 0
-next_branch (row.Let x kind l start) = 0
-next_branch (row.Test x y other) = 0
-next_branch (row.Call f l v0 v1 v2 v3) = 0
-next_branch (row.Case x) = 0
 next_branch (row.Branch form x0 l0 next) = next
+next_branch _ = 0
 
 abbrev pub is_case : Row → Bool
-is_case (row.Variable x) = false
-is_case (row.Number value) = false
-is_case (row.Sum x y) = false
-is_case (row.Difference x y) = false
-is_case (row.Region r room) = false
-is_case (row.Start l r) = false
-is_case (row.Past l m k) = false
-is_case (row.After l m t) = false
-is_case (row.Construct form l v0 v1 v2 v3 v4 v5 v6 v7) = false
-is_case (row.Let x kind l start) = false
-is_case (row.Test x y other) = false
-is_case (row.Call f l v0 v1 v2 v3) = false
 is_case (row.Case x) = true
-is_case (row.Branch form x0 l0 next) = false
+is_case _ = false
 
 -- the same by row number, where rows past the last are none of these
 abbrev pub bound_end_at : List Row → ℕ → ℕ
@@ -64,6 +28,10 @@ next_at rows m = either (slice_get rows m) 0 next_branch
 
 abbrev pub is_case_at : List Row → ℕ → Bool
 is_case_at rows m = either (slice_get rows m) false is_case
+
+-- the row that row m leads to: a case to its first branch, a branch to the next; 0 for none
+abbrev pub leads : List Row → ℕ → ℕ
+leads rows m = cond (is_case_at rows m) (m + 1) (next_at rows m)
 
 -- whether row m is a let that binds row n: whether its bound part, rows m + 1 to body − 1, holds row n
 abbrev pub binds : List Row → ℕ → ℕ → Bool

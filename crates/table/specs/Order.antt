@@ -29,36 +29,19 @@ furthers n next = cond (next == 0) [] (further n next ∷ [])
 
 -- what is due behind row n: the first child is the next row, and each next child starts where the former's rows end
 abbrev pub children : ℕ → Row → List Due
-children n (row.Variable x) = []
-children n (row.Number value) = []
-children n (row.Sum x y) = []
-children n (row.Difference x y) = []
 children n (row.Region r room) = child ∷ []
 children n (row.Start l r) = child ∷ []
 children n (row.Past l m k) = child ∷ []
 children n (row.After l m t) = child ∷ []
-children n (row.Construct form l v0 v1 v2 v3 v4 v5 v6 v7) = []
 children n (row.Let x kind l start) = child ∷ later n start ∷ []
 children n (row.Test x y other) = child ∷ later n other ∷ []
-children n (row.Call f l v0 v1 v2 v3) = []
 children n (row.Case x) = branch ∷ []
 children n (row.Branch form x0 l0 next) = child ∷ furthers n next
+children n _ = []
 
 abbrev pub is_branch : Row → Bool
-is_branch (row.Variable x) = false
-is_branch (row.Number value) = false
-is_branch (row.Sum x y) = false
-is_branch (row.Difference x y) = false
-is_branch (row.Region r room) = false
-is_branch (row.Start l r) = false
-is_branch (row.Past l m k) = false
-is_branch (row.After l m t) = false
-is_branch (row.Construct form l v0 v1 v2 v3 v4 v5 v6 v7) = false
-is_branch (row.Let x kind l start) = false
-is_branch (row.Test x y other) = false
-is_branch (row.Call f l v0 v1 v2 v3) = false
-is_branch (row.Case x) = false
 is_branch (row.Branch form x0 l0 next) = true
+is_branch _ = false
 
 -- whether row n may stand where this is due: branches where branches are, a function's body where the function says
 abbrev pub stands : Due → ℕ → Row → Bool

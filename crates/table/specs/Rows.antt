@@ -1,6 +1,7 @@
 -- A row by its sixteen bytes: the kind, its operands, and nothing but 0 behind them.
-use Rattle.std.specs.Prelude.{ℕ, ◌+◌, ◌*◌, Bool, true, cond, ◌&&◌, List, [], ◌∷◌, length, take, Some, None, Option, ◌==◌, slice_index}
-use Rattle.std.specs.List.{between}
+use Rattle.std.specs.Prelude.{ℕ, ◌+◌, ◌*◌, Bool, cond, List, length, take, None, Option, ◌==◌, slice_index}
+use Rattle.std.specs.Bool.{then_some}
+use Rattle.std.specs.List.{between, list_all}
 use Rattle.packed.specs.Packing.{integer}
 use Rattle.table.specs.declared.row.Row.{Row}
 use Rattle.table.specs.declared.row.Row.TheVariants as row
@@ -10,12 +11,11 @@ abbrev pub word : List ℕ → ℕ → ℕ
 word bs i = slice_index bs i + 256 * slice_index bs (i + 1)
 
 abbrev pub zeros : List ℕ → Bool
-zeros [] = true
-zeros (b ∷ bs) = b == 0 && zeros bs
+zeros bs = list_all (λ b. b == 0) bs
 
 -- a row, if nothing but 0 stands behind it
 abbrev pub closed : Row → List ℕ → Option Row
-closed r rest = cond (zeros rest) (Some r) None
+closed r rest = then_some (zeros rest) r
 
 -- a row whose operands are the first n of these bytes
 abbrev pub ended : ℕ → List ℕ → Row → Option Row

@@ -1,8 +1,8 @@
 -- The sections of a table, and whether the bytes and the counts fit them.
 use Rattle.std.specs.Prelude.{ℕ, ◌+◌, ◌-◌, ◌*◌, ◌/◌, Bool, cond, ◌&&◌, List, length, take, drop, Ok, Err, Result, ◌==◌, nat_le}
 use Rattle.packed.specs.declared.fault.Fault.{Fault}
-use Rattle.packed.specs.declared.fault.Reason.{Reason}
 use Rattle.packed.specs.declared.fault.Reason.TheVariants as reason
+use Rattle.packed.specs.Faults.{found, given}
 use Rattle.packed.specs.Forms.{total}
 use Rattle.table.specs.declared.section.Section.{Section}
 use Rattle.table.specs.declared.section.Layout.{Layout}
@@ -12,13 +12,6 @@ use Rattle.table.specs.Rows.{word}
 abbrev pub onward : {A B : Type 0} → Result A Fault → (A → Result B Fault) → Result B Fault
 onward (Ok x) more = more x
 onward (Err f) more = Err f
-
-abbrev pub found : Reason → ℕ → ℕ → Fault
-found why layer p = record { reason = why; layer = layer; place = p }
-
--- nothing, where a test holds, or else a fault
-abbrev pub given : Bool → Reason → ℕ → ℕ → Result (Unit {0}) Fault
-given test why layer p = cond test (Ok tt) (Err (found why layer p))
 
 -- The section whose count stands at a place. Bytes that end before it does are found where the first count or record
 -- starts that is not whole.

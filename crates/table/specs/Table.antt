@@ -12,7 +12,8 @@ use Rattle.table.specs.declared.function.Function.{Function}
 use Rattle.table.specs.declared.row.Row.{Row}
 use Rattle.table.specs.declared.section.Layout.{Layout}
 use Rattle.table.specs.Rows.{row_of}
-use Rattle.table.specs.Sections.{onward, found, given, within, layout_of}
+use Rattle.packed.specs.Faults.{found, given}
+use Rattle.table.specs.Sections.{onward, within, layout_of}
 use Rattle.table.specs.Meaning.{records_from, fields_of, function_of, fair_function, Terms, fair_row, first_unfair}
 use Rattle.table.specs.Order.{rows_from, disorder, bodies}
 

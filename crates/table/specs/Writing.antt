@@ -8,7 +8,8 @@ use Rattle.table.specs.declared.function.Function.{Function}
 use Rattle.table.specs.declared.row.Row.{Row}
 use Rattle.table.specs.declared.section.Layout.{Layout}
 use Rattle.table.specs.Encoding.{row_bytes}
-use Rattle.table.specs.Sections.{onward, given, sections_of}
+use Rattle.packed.specs.Faults.{given}
+use Rattle.table.specs.Sections.{onward, sections_of}
 use Rattle.table.specs.Table.{constructors_in, functions_in, rows_in, sizes_in, table_of}
 
 -- four places, each with its byte

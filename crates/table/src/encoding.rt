@@ -1,40 +1,20 @@
 // Encoding: a row into its sixteen bytes.
-ghost use Rattle.std.specs.Prelude.{◌≡◌, ◌/◌, ◌%◌, ◌≤◌, ◌∷◌, length, Some};
-ghost use Rattle.packed.specs.Trees.{eight};
+ghost use Rattle.std.specs.Prelude.{◌≡◌, ◌+◌, ◌≤◌, ◌++◌, length, Some};
 ghost use Rattle.table.specs.Rows.{row_of};
 ghost use Rattle.table.specs.Encoding.{Held, padded, row_bytes};
 
 use crate::row::Row;
 
-// These bytes, and 0 behind them.
-fn sixteen(front: &[u8]) -> [u8; 16]
-    requires { length front.now ≤ 16 }
-    ensures { result ≡ padded 16 front.now }
+// The kind and operands of one byte, then the bytes of a number that takes more, and 0 behind them.
+fn sixteen(front: &[u8], number: &[u8]) -> [u8; 16]
+    requires { length front.now + length number.now ≤ 16 }
+    ensures { result ≡ padded 16 (front.now ++ number.now) }
 {
     let mut bytes = [0; 16];
-    bytes[0..front.len()].copy_from_slice(front);
+    let (start, rest) = bytes.split_at_mut(front.len());
+    start.copy_from_slice(front);
+    rest[..number.len()].copy_from_slice(number);
     bytes
-}
-
-// The two bytes of a word.
-
-pub fn low(word: u16) -> u8
-    ensures { result ≡ word % 256 }
-{
-    (word % 256) as u8
-}
-
-pub fn high(word: u16) -> u8
-    ensures { result ≡ word / 256 % 256 }
-{
-    (word / 256) as u8
-}
-
-fn number(value: i64) -> [u8; 16]
-    ensures { result ≡ padded 16 (1 ∷ eight value) }
-{
-    let [a, b, c, d, e, f, g, h] = value.to_le_bytes();
-    sixteen(&[1, a, b, c, d, e, f, g, h])
 }
 
 // The kind, then the operands in the order of the fields. That a row's fields fit their types is known only where they
@@ -44,14 +24,14 @@ fn bytes_of(row: Row) -> [u8; 16]
     ensures held { Held row }
 {
     match row {
-        Row::Variable { x } => sixteen(&[0, x]),
-        Row::Number { value } => number(value),
-        Row::Sum { x, y } => sixteen(&[2, x, y]),
-        Row::Difference { x, y } => sixteen(&[3, x, y]),
-        Row::Region { r, room } => sixteen(&[4, r, low(room), high(room)]),
-        Row::Start { l, r } => sixteen(&[5, l, r]),
-        Row::Past { l, m, k } => sixteen(&[6, l, m, k]),
-        Row::After { l, m, t } => sixteen(&[7, l, m, t]),
+        Row::Variable { x } => sixteen(&[0, x], &[]),
+        Row::Number { value } => sixteen(&[1], &value.to_le_bytes()),
+        Row::Sum { x, y } => sixteen(&[2, x, y], &[]),
+        Row::Difference { x, y } => sixteen(&[3, x, y], &[]),
+        Row::Region { r, room } => sixteen(&[4, r], &room.to_le_bytes()),
+        Row::Start { l, r } => sixteen(&[5, l, r], &[]),
+        Row::Past { l, m, k } => sixteen(&[6, l, m, k], &[]),
+        Row::After { l, m, t } => sixteen(&[7, l, m, t], &[]),
         Row::Construct {
             form,
             l,
@@ -63,9 +43,9 @@ fn bytes_of(row: Row) -> [u8; 16]
             v5,
             v6,
             v7,
-        } => sixteen(&[8, form, l, v0, v1, v2, v3, v4, v5, v6, v7]),
-        Row::Let { x, kind, l, body } => sixteen(&[9, x, kind, l, low(body), high(body)]),
-        Row::Test { x, y, other } => sixteen(&[10, x, y, low(other), high(other)]),
+        } => sixteen(&[8, form, l, v0, v1, v2, v3, v4, v5, v6, v7], &[]),
+        Row::Let { x, kind, l, body } => sixteen(&[9, x, kind, l], &body.to_le_bytes()),
+        Row::Test { x, y, other } => sixteen(&[10, x, y], &other.to_le_bytes()),
         Row::Call {
             f,
             l,
@@ -73,9 +53,9 @@ fn bytes_of(row: Row) -> [u8; 16]
             v1,
             v2,
             v3,
-        } => sixteen(&[11, f, l, v0, v1, v2, v3]),
-        Row::Case { x } => sixteen(&[12, x]),
-        Row::Branch { form, x0, l0, next } => sixteen(&[13, form, x0, l0, low(next), high(next)]),
+        } => sixteen(&[11, f, l, v0, v1, v2, v3], &[]),
+        Row::Case { x } => sixteen(&[12, x], &[]),
+        Row::Branch { form, x0, l0, next } => sixteen(&[13, form, x0, l0], &next.to_le_bytes()),
     }
 }
 

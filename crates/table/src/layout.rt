@@ -1,130 +1,33 @@
 // Layer 1: where the sections lie, and whether bytes and counts fit.
-ghost use Rattle.std.specs.Prelude.{◌≡◌, ℕ, ◌+◌, ◌*◌, ◌<◌, ◌≤◌, length};
+ghost use Rattle.std.specs.Prelude.{◌≡◌, ◌+◌, ◌-◌, ◌≤◌, length};
+ghost use Rattle.packed.specs.declared.fault.Reason.TheVariants as reason;
 ghost use Rattle.packed.specs.Forms.{total};
-ghost use Rattle.table.specs.Rows.{word};
-ghost use Rattle.table.specs.Sections.{found, given, section_of, sections_of, counts_of, layout_of, within};
-ghost use Rattle.std.proofs.Common.{rules};
+ghost use Rattle.packed.specs.Faults.{given};
+ghost use Rattle.table.specs.Sections.{section_of, sections_of, counts_of, in_range, layout_of};
 
+use crate::function::Function;
+use crate::record::Record;
+use crate::row::Row;
 use crate::section::{Layout, Section};
-use packed::{Fault, Reason};
-
-// A kind of record, by how many bytes one has.
-pub trait Record {
-    const WIDTH: usize;
-
-    ghost width: { ℕ };
-
-    // The constant, as a call that generic code can rest on.
-    fn stride() -> usize
-        ensures value { result ≡ width };
-
-    ghost narrow: { (0 < width) × (width < 256) };
-}
-
-pub struct TypeRecord;
-
-impl Record for TypeRecord {
-    const WIDTH: usize = 1;
-
-    ghost width = { 1 };
-
-    ghost narrow = { Prim.search rules };
-
-    fn stride() -> usize {
-        Self::WIDTH
-    }
-}
-
-pub struct ConstructorRecord;
-
-impl Record for ConstructorRecord {
-    const WIDTH: usize = 6;
-
-    ghost width = { 6 };
-
-    ghost narrow = { Prim.search rules };
-
-    fn stride() -> usize {
-        Self::WIDTH
-    }
-}
-
-pub struct FunctionRecord;
-
-impl Record for FunctionRecord {
-    const WIDTH: usize = 8;
-
-    ghost width = { 8 };
-
-    ghost narrow = { Prim.search rules };
-
-    fn stride() -> usize {
-        Self::WIDTH
-    }
-}
-
-pub struct RowRecord;
-
-impl Record for RowRecord {
-    const WIDTH: usize = 16;
-
-    ghost width = { 16 };
-
-    ghost narrow = { Prim.search rules };
-
-    fn stride() -> usize {
-        Self::WIDTH
-    }
-}
-
-// A fault of a table.
-pub fn fault(reason: Reason, layer: u8, place: usize) -> Fault
-    ensures value { result ≡ found reason layer place }
-{
-    Fault {
-        reason,
-        layer,
-        place,
-    }
-}
-
-// Nothing where the test holds, or else a fault.
-pub fn give(test: bool, reason: Reason, layer: u8, place: usize) -> Result<(), Fault>
-    ensures value { result ≡ given test reason layer place }
-{
-    if test {
-        Ok(())
-    } else {
-        Err(fault(reason, layer, place))
-    }
-}
-
-// The word at `at`.
-pub fn word_at(bytes: &[u8], at: usize) -> usize
-    requires { at + 2 ≤ length bytes.now }
-    ensures value { result ≡ word bytes.now at }
-    ensures bound { result < 65536 }
-{
-    bytes[at] as usize + 256 * bytes[at + 1] as usize
-}
+use packed::{Fault, Fields, Reason};
 
 // Where the records of the section lie whose count stands at `at`.
 pub fn read_section<R: Record>(bytes: &[u8], at: usize) -> Result<Section, Fault>
-    ensures value { result ≡ section_of R.Record.width bytes.now at }
+    ensures value { result ≡ section_of R.WIDTH bytes.now at }
 {
-    if bytes.len() < 2 || at > bytes.len() - 2 {
-        return Err(fault(Reason::BytesEnd, 1, at));
-    }
-    let count = word_at(bytes, at);
+    let Some(&[low, high]) = bytes.get(at..).and_then(|rest| rest.first_chunk::<2>()) else {
+        return Err(Fault::new(Reason::BytesEnd, 1, at));
+    };
+    let count = usize::from(u16::from_le_bytes([low, high]));
     let start = at + 2;
-    let whole = (bytes.len() - start) / R::stride();
+    let whole = (bytes.len() - start) / R::WIDTH;
     if count > whole {
-        return Err(fault(Reason::BytesEnd, 1, start + whole * R::stride()));
+        return Err(Fault::new(Reason::BytesEnd, 1, start + whole * R::WIDTH));
     }
     Ok(Section {
         start,
         count,
-        end: start + count * R::stride(),
+        end: start + count * R::WIDTH,
     })
 }
 
@@ -132,11 +35,11 @@ pub fn read_section<R: Record>(bytes: &[u8], at: usize) -> Result<Section, Fault
 fn sections(bytes: &[u8]) -> Result<Layout, Fault>
     ensures value { result ≡ sections_of bytes.now }
 {
-    give(bytes.len() >= 1, Reason::BytesEnd, 1, 0)?;
-    let types = read_section::<TypeRecord>(bytes, 1)?;
-    let constructors = read_section::<ConstructorRecord>(bytes, types.end)?;
-    let functions = read_section::<FunctionRecord>(bytes, constructors.end)?;
-    let rows = read_section::<RowRecord>(bytes, functions.end)?;
+    Fault::unless(!bytes.is_empty(), Reason::BytesEnd, 1, 0)?;
+    let types = read_section::<u8>(bytes, 1)?;
+    let constructors = read_section::<Fields>(bytes, types.end)?;
+    let functions = read_section::<Function>(bytes, constructors.end)?;
+    let rows = read_section::<Row>(bytes, functions.end)?;
     Ok(Layout {
         types,
         constructors,
@@ -150,11 +53,21 @@ fn sum(sizes: &[u8]) -> usize
     requires { length sizes.now ≤ 65535 }
     ensures value { result ≡ total sizes.now }
 {
-    let mut all = 0;
-    for size in sizes {
-        all += *size as usize;
-    }
-    all
+    sizes.iter().map(|size| usize::from(*size)).sum()
+}
+
+// Nothing where a condition on a section's count holds, or else a fault: a count stands two bytes before its records.
+fn fair_count(condition: bool, section: &Section) -> Result<(), Fault>
+    ensures value { result ≡ given condition reason.Count 1 (section.now.start - 2) }
+{
+    Fault::unless(condition, Reason::Count, 1, section.start.saturating_sub(2))
+}
+
+// Whether a section has at least one record, and at most `most`.
+fn in_limit(section: &Section, most: usize) -> Result<(), Fault>
+    ensures value { result ≡ given (in_range 1 section.now.count most) reason.Count 1 (section.now.start - 2) }
+{
+    fair_count((1..=most).contains(&section.count), section)
 }
 
 // Whether each count is within its limit, and the constructors as many as the type bytes say.
@@ -164,35 +77,12 @@ fn counts(bytes: &[u8], layout: &Layout) -> Result<(), Fault>
     requires few { layout.now.types.end ≤ layout.now.types.start + 65535 }
     ensures value { result ≡ counts_of bytes.now layout.now }
 {
-    let types = layout.types.count;
-    give(
-        types >= 1 && types <= 16,
-        Reason::Count,
-        1,
-        layout.types.start.saturating_sub(2),
-    )?;
-    let constructors = layout.constructors.count;
-    let said = sum(&bytes[layout.types.start..layout.types.end]);
-    give(
-        said == constructors && constructors <= 64,
-        Reason::Count,
-        1,
-        layout.constructors.start.saturating_sub(2),
-    )?;
-    let functions = layout.functions.count;
-    give(
-        functions >= 1 && functions <= 32,
-        Reason::Count,
-        1,
-        layout.functions.start.saturating_sub(2),
-    )?;
-    let rows = layout.rows.count;
-    give(
-        rows >= 1 && rows <= 1024,
-        Reason::Count,
-        1,
-        layout.rows.start.saturating_sub(2),
-    )
+    in_limit(&layout.types, 16)?;
+    let said = sum(layout.types.within(bytes));
+    let constructors = &layout.constructors;
+    fair_count(said == constructors.count && said <= 64, constructors)?;
+    in_limit(&layout.functions, 32)?;
+    in_limit(&layout.rows, 1024)
 }
 
 // Layer 1: the sections of a table whose bytes and counts fit.
@@ -200,7 +90,7 @@ pub fn layout(bytes: &[u8]) -> Result<Layout, Fault>
     ensures value { result ≡ layout_of bytes.now }
 {
     let layout = sections(bytes)?;
-    give(
+    Fault::unless(
         bytes.len() <= layout.rows.end,
         Reason::BytesBehind,
         1,

@@ -12,9 +12,12 @@ mod meaning;
 mod order;
 mod parts;
 mod reading;
+mod record;
+mod records;
 mod row;
 mod rows;
 mod section;
+mod sections;
 mod table;
 mod writing;
 

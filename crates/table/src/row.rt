@@ -1,7 +1,8 @@
 // A row of a program, by its kind: docs/ROWS.md is the table that this follows, in order and names.
 
-// Variables are x and y, locations l and m, a region r, a constructor `form`, a function f.
-#[derive(Clone, Copy)]
+// Variables are x and y, locations l and m, a region r, a constructor `form`, a function f. All stay the numbers that the
+// bytes say, also the row numbers `body`, `other` and `next`: what they name, if anything, is judged later.
+#[derive(Clone, Copy, Debug, PartialEq, Eq)]
 pub enum Row {
     Variable {
         x: u8,
@@ -35,6 +36,7 @@ pub enum Row {
         m: u8,
         t: u8,
     },
+    // (Eight fields: definitions and contracts name each operand.)
     Construct {
         form: u8,
         l: u8,

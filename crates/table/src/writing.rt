@@ -1,7 +1,9 @@
 // Writing: a whole table from its records.
-ghost use Rattle.std.specs.Prelude.{◌≡◌, ℕ, ◌+◌, ◌*◌, ◌<◌, ◌≤◌, List, ◌++◌, length, take, drop, Some, Ok};
+ghost use Rattle.std.specs.Prelude.{◌≡◌, refl, ℕ, ◌+◌, ◌*◌, ◌<◌, ◌≤◌, List, ◌++◌, length, nat_le, take, drop, Some, Ok};
 ghost use Rattle.std.specs.List.{slice_get};
+ghost use Rattle.packed.specs.declared.fault.Reason.TheVariants as reason;
 ghost use Rattle.packed.specs.Buffers.{Front};
+ghost use Rattle.packed.specs.Faults.{given};
 ghost use Rattle.packed.specs.Packing.{filled};
 ghost use Rattle.packed.specs.Trees.{low as bytes_of_word};
 ghost use Rattle.table.specs.Encoding.{row_bytes};
@@ -9,17 +11,18 @@ ghost use Rattle.table.specs.Meaning.{fields_of, function_of};
 ghost use Rattle.table.specs.Rows.{row_of};
 ghost use Rattle.table.specs.Writing.{fields_bytes, function_bytes, ReadsBack, section_bytes, spelt, table_bytes, write_of};
 
-use crate::encoding::{high, low};
 use crate::function::Function;
-use crate::layout::{ConstructorRecord, FunctionRecord, Record, RowRecord, give};
+use crate::record::Record;
 use crate::row::Row;
-use packed::{Fault, Fields, Reason};
+use packed::{Fault, Fields, Reason, refused};
 
-// The layer of calls, above those of tables.
-const CALL_LAYER: u8 = 4;
-
-// The greatest count that a word holds.
-const MOST: usize = 65535;
+// Whether a section's count fits its word; a refusal has the section's number as its place.
+fn fits_a_word(count: usize, section: usize) -> Result<(), Fault>
+    ensures value { result ≡ given (nat_le count 65535) reason.Count 4 section }
+{
+    let fits = count <= usize::from(u16::MAX);
+    fits.then_some(()).ok_or(refused(Reason::Count, section))
+}
 
 // Writes bytes from `at` on.
 fn put(out: &mut [u8], at: usize, bytes: &[u8])
@@ -30,113 +33,96 @@ fn put(out: &mut [u8], at: usize, bytes: &[u8])
 }
 
 // Writes a count in a word.
+// (`as` loses nothing: writers ask for `≤ 65535`, since a word handed on would be a second length beside its slice.)
 fn put_count(out: &mut [u8], at: usize, count: usize)
     requires room { at + 2 ≤ length out.old }
     requires few { count ≤ 65535 }
     ensures after { (word old : List ℕ) → Front word old at out.old → Front (word ++ bytes_of_word 2 count) old (at + 2) out.new }
 {
-    let word = count as u16;
-    put(out, at, &[low(word), high(word)]);
+    put(out, at, &(count as u16).to_le_bytes());
 }
 
-// A record of the kind R, as it is written: its bytes are as many as R's width says.
-pub trait Spelled<R: Record> {
+// A record that can be written: its bytes, which describe it.
+// (N beside WIDTH: an array's length cannot be a trait's constant.)
+pub trait Spelled<const N: usize>: Record {
     ghost spell: { Self → List ℕ };
 
     // its bytes describe it
     ghost back: { Self → Type 0 };
 
-    fn put(&self, out: &mut [u8], at: usize)
-        requires { at + R.Record.width ≤ length out.old }
-        ensures after { (word old : List ℕ) → Front word old at out.old → Front (word ++ spell self.now) old (at + R.Record.width) out.new }
+    fn spelled(&self) -> [u8; N]
+        ensures value { result ≡ spell self.now }
         ensures back { back self.now };
+
+    ghost wide: { N ≡ Self.WIDTH };
 }
 
-fn fields_bytes(fields: &Fields) -> [u8; 6]
-    ensures value { result ≡ fields_bytes fields.now }
-    ensures back { fields_of result ≡ fields.now }
-{
-    let [a, b, c, d] = fields.types;
-    [fields.integers, fields.subtrees, a, b, c, d]
-}
-
-fn function_bytes(function: &Function) -> [u8; 8]
-    ensures value { result ≡ function_bytes function.now }
-    ensures back { function_of result ≡ function.now }
-{
-    let [a, b, c, d] = function.kinds;
-    let first = function.first;
-    [
-        function.parameters,
-        a,
-        b,
-        c,
-        d,
-        function.result,
-        low(first),
-        high(first),
-    ]
-}
-
-impl Spelled<ConstructorRecord> for Fields {
+impl Spelled<6> for Fields {
     ghost spell = { fields_bytes };
 
     ghost back = { λ f. fields_of (fields_bytes f) ≡ f };
 
-    fn put(&self, out: &mut [u8], at: usize) {
-        let bytes = fields_bytes(self);
-        put(out, at, &bytes);
+    ghost wide = { refl };
+
+    fn spelled(&self) -> [u8; 6] {
+        let [a, b, c, d] = self.types;
+        [self.integers, self.subtrees, a, b, c, d]
     }
 }
 
-impl Spelled<FunctionRecord> for Function {
+impl Spelled<8> for Function {
     ghost spell = { function_bytes };
 
     ghost back = { λ f. function_of (function_bytes f) ≡ f };
 
-    fn put(&self, out: &mut [u8], at: usize) {
-        let bytes = function_bytes(self);
-        put(out, at, &bytes);
+    ghost wide = { refl };
+
+    fn spelled(&self) -> [u8; 8] {
+        let [a, b, c, d] = self.kinds;
+        let [low, high] = self.first.to_le_bytes();
+        [self.parameters, a, b, c, d, self.result, low, high]
     }
 }
 
-impl Spelled<RowRecord> for Row {
+impl Spelled<16> for Row {
     ghost spell = { row_bytes };
 
     ghost back = { λ r. row_of (row_bytes r) ≡ Some r };
 
-    fn put(&self, out: &mut [u8], at: usize) {
-        let bytes = self.encode();
-        put(out, at, &bytes);
+    ghost wide = { refl };
+
+    fn spelled(&self) -> [u8; 16] {
+        self.encode()
     }
 }
 
 // Writes records one behind the other, from `at` on.
-fn put_records<R: Record, T: Spelled<R>>(records: &[T], out: &mut [u8], at: usize)
+fn put_records<const N: usize, T: Spelled<N>>(records: &[T], out: &mut [u8], at: usize)
     requires few { length records.now ≤ 65535 }
-    requires room { at + length records.now * R.Record.width ≤ length out.old }
-    ensures after { (word old : List ℕ) → Front word old at out.old → Front (word ++ spelt T.Spelled.spell records.now) old (at + length records.now * R.Record.width) out.new }
+    requires room { at + length records.now * N ≤ length out.old }
+    ensures after { (word old : List ℕ) → Front word old at out.old → Front (word ++ spelt T.Spelled.spell records.now) old (at + length records.now * N) out.new }
     ensures back { (k : ℕ) (x : T) → slice_get records.now k ≡ Some x → T.Spelled.back x }
 {
-    for i in 0..records.len() {
-        records[i].put(out, at + i * R::stride());
+    // By place: behind chunks of a buffer that is lent to be written a proof knows its length alone.
+    for (i, record) in records.iter().enumerate() {
+        put(out, at + i * N, &record.spelled());
     }
 }
 
 // Writes a section, its count first, from `at` on, and answers where it ends.
-fn put_section<R: Record, T: Spelled<R>>(records: &[T], out: &mut [u8], at: usize) -> usize
+fn put_section<const N: usize, T: Spelled<N>>(records: &[T], out: &mut [u8], at: usize) -> usize
     requires few { length records.now ≤ 65535 }
-    requires room { at + 2 + length records.now * R.Record.width ≤ length out.old }
-    ensures end { result ≡ at + 2 + length records.now * R.Record.width }
+    requires room { at + 2 + length records.now * N ≤ length out.old }
+    ensures end { result ≡ at + 2 + length records.now * N }
     ensures after { (word old : List ℕ) → Front word old at out.old → Front (word ++ section_bytes T.Spelled.spell records.now) old result out.new }
     ensures back { (k : ℕ) (x : T) → slice_get records.now k ≡ Some x → T.Spelled.back x }
 {
     put_count(out, at, records.len());
-    put_records::<R, T>(records, out, at + 2);
-    at + 2 + records.len() * R::stride()
+    put_records(records, out, at + 2);
+    at + 2 + records.len() * N
 }
 
-// Writes a table at the front.
+// Writes a table at the front. (Sizes are bytes already, and are copied at once, where a section is written record by record.)
 fn put_table(sizes: &[u8], fields: &[Fields], functions: &[Function], rows: &[Row], out: &mut [u8])
     requires types { length sizes.now ≤ 65535 }
     requires constructors { length fields.now ≤ 65535 }
@@ -149,9 +135,9 @@ fn put_table(sizes: &[u8], fields: &[Fields], functions: &[Function], rows: &[Ro
     put(out, 0, &[1]);
     put_count(out, 1, sizes.len());
     put(out, 3, sizes);
-    let constructors_end = put_section::<ConstructorRecord, Fields>(fields, out, 3 + sizes.len());
-    let functions_end = put_section::<FunctionRecord, Function>(functions, out, constructors_end);
-    put_section::<RowRecord, Row>(rows, out, functions_end);
+    let constructors_end = put_section(fields, out, 3 + sizes.len());
+    let functions_end = put_section(functions, out, constructors_end);
+    put_section(rows, out, functions_end);
 }
 
 // Writes the table with these records into the front of `out`, and answers how many bytes it took.
@@ -166,12 +152,14 @@ pub fn write(
     ensures after { out.new ≡ filled result (table_bytes sizes.now fields.now functions.now rows.now) out.old }
     ensures back { (n : ℕ) → result ≡ Ok n → ReadsBack sizes.now fields.now functions.now rows.now (take n out.new) }
 {
-    give(sizes.len() <= MOST, Reason::Count, CALL_LAYER, 0)?;
-    give(fields.len() <= MOST, Reason::Count, CALL_LAYER, 1)?;
-    give(functions.len() <= MOST, Reason::Count, CALL_LAYER, 2)?;
-    give(rows.len() <= MOST, Reason::Count, CALL_LAYER, 3)?;
+    fits_a_word(sizes.len(), 0)?;
+    fits_a_word(fields.len(), 1)?;
+    fits_a_word(functions.len(), 2)?;
+    fits_a_word(rows.len(), 3)?;
     let length = 9 + sizes.len() + fields.len() * 6 + functions.len() * 8 + rows.len() * 16;
-    give(length <= out.len(), Reason::ShortBuffer, CALL_LAYER, 0)?;
+    if length > out.len() {
+        return Err(refused(Reason::ShortBuffer, 0));
+    }
     put_table(sizes, fields, functions, rows, out);
     Ok(length)
 }

@@ -2,16 +2,20 @@
 #![tactic(auto)]
 
 mod answer;
-mod hex;
 
 use crate::answer::answer_to;
 use std::io::{BufRead, BufReader};
+use words::Refusal;
 
 // The input is buffered, since a table's line can be long.
 fn run(rt: &HostRuntime) -> anyhow::Result<()> {
     let heap = rt.alloc();
     for line in BufReader::new(heap, rt.stdin())?.lines(heap) {
-        rt.println(answer_to(heap, line?.as_str())?)?;
+        match answer_to(heap, line?.as_str()) {
+            Ok(()) => rt.println("formed")?,
+            Err(Refusal::NoMemory(no_memory)) => return Err(no_memory.into()),
+            Err(refusal) => rt.println(refusal)?,
+        }
     }
     Ok(())
 }

@@ -1,107 +1,97 @@
--- Text cut at a separator: what a search for it keeps, and the parts on its two sides.
-use Rattle.std.proofs.Common.{◌≡◌, ℕ, suc, ◌+◌, ◌-◌, ◌<◌, ◌≤◌, Bool, true, false, cond, T, eqb, List, [], ◌∷◌, length, get_or, take, drop, Some, None, Option, sym, refl, ap, ◌∙◌, subst, arith, eq-eqb, ne_eqb}
-use Rattle.std.proofs.lemmas.List.{at_drop_more, at_drop_all, length-drop, take_all}
-use Rattle.words.specs.Text.{first_at, head_of, tail_of, behind_name}
+-- Text cut at a separator: the parts on the two sides of its place, and what stands behind a name.
+use Rattle.std.proofs.Common.{◌≡◌, ◌≢◌, ℕ, suc, ◌+◌, ◌-◌, ◌==◌, ◌<◌, ◌≤◌, Bool, true, false, not, cond, List, [], ◌∷◌, ◌++◌, length, take, drop, MatchOption, position, ltb, Some, None, Option, Bor, sym, refl, ap, ap₂, ◌∙◌, arith}
+use Rattle.std.specs.List.{position_or_len}
+use Rattle.std.specs.Option.{option_map}
+use Rattle.std.proofs.lemmas.Bool.{ltb-true, ltb-false}
+use Rattle.std.proofs.lemmas.Bool.Decides.{Decides-eqb}
+use Rattle.std.proofs.lemmas.List.{length-drop, take_all}
+use Rattle.words.specs.Text.{head_of, tail_of, behind_name}
 
-head-case : (b : Bool) (c n : ℕ) (h cs : List ℕ) → h ≡ take n cs → cond b [] (c ∷ h) ≡ take (cond b 0 (suc n)) (c ∷ cs)
+abbrev place : ℕ → List ℕ → ℕ
+place sep t = position_or_len (λ c. c == sep) t
+
+-- the place that `position` answers
+found-case : (b : Bool) (n m at : ℕ) → ltb n m ≡ b → Some at ≡ cond b (Some n) None → (at ≡ n) × (at < m)
+found-case true n m at h e = let same : at ≡ n = cc in (same, omega (arith, ltb-true n m h))
+found-case false n m at h e = absurd cc
+
+missed-case : (b : Bool) (n m : ℕ) → ltb n m ≡ b → None ≡ cond b (Some n) None → m ≤ n
+missed-case true n m h e = absurd cc
+missed-case false n m h e = ltb-false n m h
+
+found : (sep : ℕ) (t : List ℕ) (at : ℕ) → Some at ≡ position (λ c. c == sep) t → (at ≡ place sep t) × (at < length t)
+found sep t at e = found-case (ltb (place sep t) (length t)) (place sep t) (length t) at refl e
+
+missed : (sep : ℕ) (t : List ℕ) → None ≡ position (λ c. c == sep) t → length t ≤ place sep t
+missed sep t e = missed-case (ltb (place sep t) (length t)) (place sep t) (length t) refl e
+
+one-more : (n : ℕ) → suc n ≡ 1 + n
+one-more n = omega arith
+
+head-case : (b : Bool) (c n : ℕ) (h cs : List ℕ) → h ≡ take n cs → cond b [] (c ∷ h) ≡ take (cond (not b) (1 + n) 0) (c ∷ cs)
 head-case true c n h cs e = refl
-head-case false c n h cs e = ap (λ l. c ∷ l) e
+head-case false c n h cs e = ap (λ l. c ∷ l) e ∙ ap (λ k. take k (c ∷ cs)) (one-more n)
 
-pub head-take : (sep : ℕ) (t : List ℕ) → head_of sep t ≡ take (first_at sep t) t
+head-take : (sep : ℕ) (t : List ℕ) → head_of sep t ≡ take (place sep t) t
 head-take sep [] = refl
-head-take sep (c ∷ cs) = head-case (eqb c sep) c (first_at sep cs) (head_of sep cs) cs (head-take sep cs)
+head-take sep (c ∷ cs) = head-case (c == sep) c (place sep cs) (head_of sep cs) cs (head-take sep cs)
 
-tail-case : (b : Bool) (c n : ℕ) (o : Option (List ℕ)) (cs : List ℕ) → cond b 0 (suc n) < length (c ∷ cs) → (n < length cs → o ≡ Some (drop (suc n) cs)) → cond b (Some cs) o ≡ Some (drop (suc (cond b 0 (suc n))) (c ∷ cs))
+pub head-found : (sep : ℕ) (t : List ℕ) (at : ℕ) → Some at ≡ position (λ c. c == sep) t → take at t ≡ head_of sep t
+head-found sep t at e = ap (λ n. take n t) (found sep t at e).0 ∙ sym (head-take sep t)
+
+pub head-missed : (sep : ℕ) (t : List ℕ) → None ≡ position (λ c. c == sep) t → t ≡ head_of sep t
+head-missed sep t e = sym (head-take sep t ∙ take_all (place sep t) t (missed sep t e))
+
+tail-case : (b : Bool) (c n : ℕ) (o : Option (List ℕ)) (cs : List ℕ) → cond (not b) (1 + n) 0 < length (c ∷ cs) → (n < length cs → o ≡ Some (drop (n + 1) cs)) → cond b (Some cs) o ≡ Some (drop (cond (not b) (1 + n) 0 + 1) (c ∷ cs))
 tail-case true c n o cs h e = refl
-tail-case false c n o cs h e = e (omega arith)
+tail-case false c n o cs h e =
+    let next : suc (n + 1) ≡ 1 + n + 1 = omega arith in
+    e (omega arith) ∙ ap (λ k. Some (drop k (c ∷ cs))) next
 
-pub tail-found : (sep : ℕ) (t : List ℕ) → first_at sep t < length t → tail_of sep t ≡ Some (drop (suc (first_at sep t)) t)
-tail-found sep [] h = absurd (omega arith)
-tail-found sep (c ∷ cs) h = tail-case (eqb c sep) c (first_at sep cs) (tail_of sep cs) cs h (tail-found sep cs)
+tail-drop : (sep : ℕ) (t : List ℕ) → place sep t < length t → tail_of sep t ≡ Some (drop (place sep t + 1) t)
+tail-drop sep [] h = absurd (omega arith)
+tail-drop sep (c ∷ cs) h = tail-case (c == sep) c (place sep cs) (tail_of sep cs) cs h (tail-drop sep cs)
 
-none-case : (b : Bool) (n : ℕ) (c : ℕ) (o : Option (List ℕ)) (cs : List ℕ) → length (c ∷ cs) ≤ cond b 0 (suc n) → (length cs ≤ n → o ≡ None) → cond b (Some cs) o ≡ None
+none-case : (b : Bool) (n c : ℕ) (o : Option (List ℕ)) (cs : List ℕ) → length (c ∷ cs) ≤ cond (not b) (1 + n) 0 → (length cs ≤ n → o ≡ None) → cond b (Some cs) o ≡ None
 none-case true n c o cs h e = absurd (omega arith)
 none-case false n c o cs h e = e (omega arith)
 
-pub tail_none : (sep : ℕ) (t : List ℕ) → length t ≤ first_at sep t → tail_of sep t ≡ None
-tail_none sep [] h = refl
-tail_none sep (c ∷ cs) h = none-case (eqb c sep) (first_at sep cs) c (tail_of sep cs) cs h (tail_none sep cs)
-
-first-case : (b : Bool) (i n : ℕ) → b ≡ false → i + cond b 0 (suc n) ≡ i + 1 + n
-first-case true i n e = absurd (subst T e tt)
-first-case false i n e = omega arith
-
-found-case : (b : Bool) (i n : ℕ) → b ≡ true → i + cond b 0 (suc n) ≡ i
-found-case true i n e = omega arith
-found-case false i n e = absurd (subst T (sym e) tt)
-
--- the search for a separator, one place at a time
-pub first_more : (sep : ℕ) (t : List ℕ) (i : ℕ) → i < length t → (get_or t i 0 ≡ sep → ⊥) → i + first_at sep (drop i t) ≡ first_at sep t → i + 1 + first_at sep (drop (i + 1) t) ≡ first_at sep t
-first_more sep t i h other inv =
-    sym (first-case (eqb (get_or t i 0) sep) i (first_at sep (drop (i + 1) t)) (ne_eqb (get_or t i 0) sep other))
-    ∙ sym (at_drop_more (λ l. i + first_at sep l) t i 0 h)
-    ∙ inv
-
-pub first_found : (sep : ℕ) (t : List ℕ) (i : ℕ) → i < length t → get_or t i 0 ≡ sep → i + first_at sep (drop i t) ≡ first_at sep t → i ≡ first_at sep t
-first_found sep t i h same inv =
-    sym (found-case (eqb (get_or t i 0) sep) i (first_at sep (drop (i + 1) t)) (eq-eqb (get_or t i 0) sep same))
-    ∙ sym (at_drop_more (λ l. i + first_at sep l) t i 0 h)
-    ∙ inv
-
-pub first-all : (sep : ℕ) (t : List ℕ) (i : ℕ) → i ≡ length t → i + first_at sep (drop i t) ≡ first_at sep t → i ≡ first_at sep t
-first-all sep t i h inv =
-    let gone : i + first_at sep (drop i t) ≡ i + 0 = at_drop_all (λ l. i + first_at sep l) t i (omega arith) in
-    omega arith
+tail-none : (sep : ℕ) (t : List ℕ) → length t ≤ place sep t → tail_of sep t ≡ None
+tail-none sep [] h = refl
+tail-none sep (c ∷ cs) h = none-case (c == sep) (place sep cs) c (tail_of sep cs) cs h (tail-none sep cs)
 
 -- all that stands from a place on, as a slice to the end has it
-pub rest-is : (t : List ℕ) (k : ℕ) → take (length t - k) (drop k t) ≡ drop k t
-rest-is t k = let long = length-drop k t in take_all (length t - k) (drop k t) (omega arith)
+pub tail-found : (sep : ℕ) (t : List ℕ) (at : ℕ) → Some at ≡ position (λ c. c == sep) t → Some (take (length t - (at + 1)) (drop (at + 1) t)) ≡ tail_of sep t
+tail-found sep t at e =
+    let here = found sep t at e in
+    let there : place sep t < length t = omega (arith, here.0, here.1) in
+    let long = length-drop (at + 1) t in
+    ap Some (take_all (length t - (at + 1)) (drop (at + 1) t) (omega arith))
+    ∙ ap (λ n. Some (drop (n + 1) t)) here.0
+    ∙ sym (tail-drop sep t there)
 
-pub tail-is : (sep : ℕ) (t : List ℕ) (at : ℕ) → at ≡ first_at sep t → at < length t → Some (take (length t - (at + 1)) (drop (at + 1) t)) ≡ tail_of sep t
-tail-is sep t at e h =
-    let found : first_at sep t < length t = omega arith in
-    let next : at + 1 ≡ suc (first_at sep t) = omega arith in
-    ap Some (rest-is t (at + 1)) ∙ ap (λ n. Some (drop n t)) next ∙ sym (tail-found sep t found)
+pub tail-missed : (sep : ℕ) (t : List ℕ) → None ≡ position (λ c. c == sep) t → None ≡ tail_of sep t
+tail-missed sep t e = sym (tail-none sep t (missed sep t e))
 
-pub rest-shorter : (t : List ℕ) (at : ℕ) → at < length t → length (take (length t - (at + 1)) (drop (at + 1) t)) < length t
-rest-shorter t at h = let long = ap length (rest-is t (at + 1)) in let left = length-drop (at + 1) t in omega arith
+-- a name that a line begins with, and one that it does not
 
--- a name at the front of a line, one place at a time
+same-case : (b : Bool) (o : Option (List ℕ)) → b ≡ true → cond b o None ≡ o
+same-case true o e = refl
+same-case false o e = absurd cc
 
-same_case : (b : Bool) (o : Option (List ℕ)) → b ≡ true → cond b o None ≡ o
-same_case true o e = refl
-same_case false o e = absurd (subst T (sym e) tt)
+behind_more : (name rest : List ℕ) → behind_name name (name ++ rest) ≡ Some rest
+behind_more [] rest = refl
+behind_more (n ∷ ns) rest = same-case (n == n) (behind_name ns (ns ++ rest)) ((Decides-eqb n n).1 refl) ∙ behind_more ns rest
 
-other-case : (b : Bool) (o : Option (List ℕ)) → b ≡ false → cond b o None ≡ None
-other-case true o e = absurd (subst T e tt)
-other-case false o e = refl
+other-case : (b : Bool) (o : Option (List ℕ)) → (b ≡ true → None ≡ o) → None ≡ cond b o None
+other-case true o h = h refl
+other-case false o h = refl
 
-both : (ns t : List ℕ) (i : ℕ) → i < length ns → i < length t → behind_name (drop i ns) (drop i t) ≡ cond (eqb (get_or t i 0) (get_or ns i 0)) (behind_name (drop (i + 1) ns) (drop (i + 1) t)) None
-both ns t i hn ht =
-    at_drop_more (λ l. behind_name l (drop i t)) ns i 0 hn
-    ∙ at_drop_more (λ l. behind_name (get_or ns i 0 ∷ drop (i + 1) ns) l) t i 0 ht
+behind-other : (name line : List ℕ) → ((rest : List ℕ) → line ≢ name ++ rest) → None ≡ behind_name name line
+behind-other [] line h = absurd (h line refl)
+behind-other (n ∷ ns) [] h = refl
+behind-other (n ∷ ns) (c ∷ cs) h = other-case (c == n) (behind_name ns cs) (λ e. behind-other ns cs (λ rest same. h rest (ap₂ ◌∷◌ ((Decides-eqb c n).0 e) same)))
 
-pub name-more : (ns t : List ℕ) (i : ℕ) → i < length ns → i < length t → get_or t i 0 ≡ get_or ns i 0 → behind_name (drop i ns) (drop i t) ≡ behind_name ns t → behind_name (drop (i + 1) ns) (drop (i + 1) t) ≡ behind_name ns t
-name-more ns t i hn ht same inv =
-    sym (same_case (eqb (get_or t i 0) (get_or ns i 0)) (behind_name (drop (i + 1) ns) (drop (i + 1) t)) (eq-eqb (get_or t i 0) (get_or ns i 0) same))
-    ∙ sym (both ns t i hn ht)
-    ∙ inv
-
-pub name-other : (ns t : List ℕ) (i : ℕ) → i < length ns → i < length t → (get_or t i 0 ≡ get_or ns i 0 → ⊥) → behind_name (drop i ns) (drop i t) ≡ behind_name ns t → None ≡ behind_name ns t
-name-other ns t i hn ht other inv =
-    sym (other-case (eqb (get_or t i 0) (get_or ns i 0)) (behind_name (drop (i + 1) ns) (drop (i + 1) t)) (ne_eqb (get_or t i 0) (get_or ns i 0) other))
-    ∙ sym (both ns t i hn ht)
-    ∙ inv
-
-pub name-short : (ns t : List ℕ) (i : ℕ) → i < length ns → length t ≤ i → behind_name (drop i ns) (drop i t) ≡ behind_name ns t → None ≡ behind_name ns t
-name-short ns t i hn ht inv =
-    sym (at_drop_more (λ l. behind_name l (drop i t)) ns i 0 hn ∙ at_drop_all (λ l. behind_name (get_or ns i 0 ∷ drop (i + 1) ns) l) t i ht)
-    ∙ inv
-
-pub name-all : (ns t : List ℕ) (i : ℕ) → length ns ≤ i → i ≤ length ns → behind_name (drop i ns) (drop i t) ≡ behind_name ns t → Some (take (length t - length ns) (drop (length ns) t)) ≡ behind_name ns t
-name-all ns t i hn hi inv =
-    let here : length ns ≡ i = omega arith in
-    ap Some (rest-is t (length ns))
-    ∙ ap (λ n. Some (drop n t)) here
-    ∙ sym (at_drop_all (λ l. behind_name l (drop i t)) ns i hn)
-    ∙ inv
+pub behind-is : (name line : List ℕ) (r : Option (Bor (List ℕ))) → MatchOption r ((rest : List ℕ) → line ≢ name ++ rest) (λ x. line ≡ name ++ x.now) → option_map (λ x. x.now) r ≡ behind_name name line
+behind-is name line None h = behind-other name line h
+behind-is name line (Some x) h = sym (ap (behind_name name) h ∙ behind_more name x.now)

@@ -1,3 +1,4 @@
+pub mod Each
 pub mod Spelling
 pub mod Cutting
 pub mod Numbering

@@ -1,25 +1,19 @@
 -- What one turn of a loop over pieces keeps: what the pieces so far stand for, before what the rest stands for, is what the whole
 -- text stands for. `sep` lies between the pieces, and `read` reads one.
-use Rattle.std.proofs.Common.{◌≡◌, ℕ, Bool, true, false, cond, eqb, List, [], ◌∷◌, ◌++◌, Some, None, Option, sym, refl, ap, ◌∙◌, append_assoc}
-use Rattle.std.specs.Option.{option_map}
+use Rattle.std.proofs.Common.{◌≡◌, ℕ, Bool, true, false, cond, eqb, List, [], ◌∷◌, ◌++◌, Some, None, Option, sym, refl, ap, ◌∙◌}
+use Rattle.std.specs.List.{onto_first}
 use Rattle.packed.specs.Forms.{either}
-use Rattle.words.specs.Text.{head_of, tail_of, onto, pieces, ahead, each_of}
+use Rattle.words.proofs.Each.{after, after_more}
+use Rattle.words.specs.Text.{head_of, tail_of, pieces, ahead, each_of}
 
-cut-case : (sep : ℕ) (b : Bool) (c : ℕ) (h cs : List ℕ) (o : Option (List ℕ)) → pieces sep cs ≡ h ∷ either o [] (pieces sep) → cond b ([] ∷ pieces sep cs) (onto c (pieces sep cs)) ≡ cond b [] (c ∷ h) ∷ either (cond b (Some cs) o) [] (pieces sep)
+cut-case : (sep : ℕ) (b : Bool) (c : ℕ) (h cs : List ℕ) (o : Option (List ℕ)) → pieces sep cs ≡ h ∷ either o [] (pieces sep) → cond b ([] ∷ pieces sep cs) (onto_first c (pieces sep cs)) ≡ cond b [] (c ∷ h) ∷ either (cond b (Some cs) o) [] (pieces sep)
 cut-case sep true c h cs o e = refl
-cut-case sep false c h cs o e = ap (onto c) e
+cut-case sep false c h cs o e = ap (onto_first c) e
 
 -- pieces are the first one, and those of what stands behind the separator
 pieces-cut : (sep : ℕ) (t : List ℕ) → pieces sep t ≡ head_of sep t ∷ either (tail_of sep t) [] (pieces sep)
 pieces-cut sep [] = refl
 pieces-cut sep (c ∷ cs) = cut-case sep (eqb c sep) c (head_of sep cs) cs (tail_of sep cs) (pieces-cut sep cs)
-
-abbrev pub after : {A : Type 0} → List A → Option (List A) → Option (List A)
-after out o = option_map (λ rest. out ++ rest) o
-
-after_more : {A : Type 0} (out : List A) (n : A) (o : Option (List A)) → after (out ++ n ∷ []) o ≡ after out (ahead (Some n) o)
-after_more out n None = refl
-after_more out n (Some rest) = ap Some (append_assoc out (n ∷ []) rest)
 
 module _ {A : Type 0} (sep : ℕ) (read : List ℕ → Option A) where
   abbrev spelled : List ℕ → Option (List A)

@@ -1,15 +1,11 @@
--- What one turn of `bytes_of` keeps: the bytes so far, before those that the rest spells, are those of the whole text.
-use Rattle.std.proofs.Common.{◌≡◌, ℕ, ◌+◌, ◌*◌, ◌%◌, ◌<◌, ◌≤◌, List, [], ◌∷◌, ◌++◌, length, get_or, drop, Some, None, Option, sym, refl, ap, ◌∙◌, append_assoc, append-nil, arith}
-use Rattle.std.specs.Option.{option_map}
-use Rattle.std.proofs.lemmas.List.{at_drop_more, at_drop_all}
+-- The bytes that a text spells are those of its pairs of digits.
+use Rattle.std.proofs.Common.{◌≡◌, ℕ, zero, suc, ◌*◌, ◌%◌, ◌/◌, List, [], ◌∷◌, length, get_or, Some, None, Option, refl, ap, ◌∙◌, arith}
+use Rattle.std.specs.Simd.{first_chunks}
 use Rattle.words.specs.Hex.{before, byte_of, spelled}
+use Rattle.words.specs.Text.{ahead, each_of}
 
-abbrev pub after : List ℕ → Option (List ℕ) → Option (List ℕ)
-after out o = option_map (λ rest. out ++ rest) o
-
-after_more : (out : List ℕ) (b : ℕ) (o : Option (List ℕ)) → after (out ++ b ∷ []) o ≡ after out (before (Some b) o)
-after_more out b None = refl
-after_more out b (Some rest) = ap Some (append_assoc out (b ∷ []) rest)
+abbrev pub pair_byte : List ℕ → Option ℕ
+pair_byte pair = byte_of (get_or pair 0 0) (get_or pair 1 0)
 
 before-none : (o : Option ℕ) → before o None ≡ None
 before-none None = refl
@@ -20,28 +16,16 @@ odd [] h = absurd (h refl)
 odd (c ∷ []) h = refl
 odd (a ∷ b ∷ cs) h = ap (before (byte_of a b)) (odd cs (λ e. h (omega arith))) ∙ before-none (byte_of a b)
 
--- the two digits of byte i, and the digits behind them
-two : (cs : List ℕ) (i : ℕ) → 2 * i + 1 < length cs → spelled (drop (2 * i) cs) ≡ before (byte_of (get_or cs (2 * i) 0) (get_or cs (2 * i + 1) 0)) (spelled (drop (2 * (i + 1)) cs))
-two cs i h =
-    let next : 2 * i + 1 + 1 ≡ 2 * (i + 1) = omega arith in
-    at_drop_more spelled cs (2 * i) 0 (omega arith)
-    ∙ at_drop_more (λ l. spelled (get_or cs (2 * i) 0 ∷ l)) cs (2 * i + 1) 0 h
-    ∙ ap (λ n. before (byte_of (get_or cs (2 * i) 0) (get_or cs (2 * i + 1) 0)) (spelled (drop n cs))) next
+before-ahead : (o : Option ℕ) (rest : Option (List ℕ)) → before o rest ≡ ahead o rest
+before-ahead None rest = refl
+before-ahead (Some b) rest = refl
 
-pub one_more : (cs out more : List ℕ) (i b : ℕ) → more ≡ out ++ b ∷ [] → 2 * i + 1 < length cs → Some b ≡ byte_of (get_or cs (2 * i) 0) (get_or cs (2 * i + 1) 0) → after out (spelled (drop (2 * i) cs)) ≡ spelled cs → after more (spelled (drop (2 * (i + 1)) cs)) ≡ spelled cs
-one_more cs out more i b pushed h is inv =
-    ap (λ l. after l (spelled (drop (2 * (i + 1)) cs))) pushed
-    ∙ after_more out b (spelled (drop (2 * (i + 1)) cs))
-    ∙ ap (λ o. after out (before o (spelled (drop (2 * (i + 1)) cs)))) is
-    ∙ ap (after out) (sym (two cs i h))
-    ∙ inv
+pairs-from : (k : ℕ) (cs : List ℕ) → length cs ≡ 2 * k → spelled cs ≡ each_of pair_byte (first_chunks 2 k cs)
+pairs-from zero [] h = refl
+pairs-from zero (c ∷ cs) h = absurd (omega arith)
+pairs-from (suc k) [] h = absurd (omega arith)
+pairs-from (suc k) (a ∷ []) h = absurd (omega arith)
+pairs-from (suc k) (a ∷ b ∷ cs) h = ap (before (byte_of a b)) (pairs-from k cs (omega arith)) ∙ before-ahead (byte_of a b) (each_of pair_byte (first_chunks 2 k cs))
 
-pub no_digit : (cs out : List ℕ) (i : ℕ) → 2 * i + 1 < length cs → None ≡ byte_of (get_or cs (2 * i) 0) (get_or cs (2 * i + 1) 0) → after out (spelled (drop (2 * i) cs)) ≡ spelled cs → None ≡ spelled cs
-no_digit cs out i h is inv =
-    ap (λ o. after out (before o (spelled (drop (2 * (i + 1)) cs)))) is
-    ∙ ap (after out) (sym (two cs i h))
-    ∙ inv
-
-pub done : (cs out : List ℕ) (i : ℕ) → length cs ≤ 2 * i → after out (spelled (drop (2 * i) cs)) ≡ spelled cs → Some out ≡ spelled cs
-done cs out i h inv =
-    ap Some (sym (append-nil out)) ∙ sym (at_drop_all (λ l. after out (spelled l)) cs (2 * i) h) ∙ inv
+pub pairs-even : (cs : List ℕ) → length cs % 2 ≡ 0 → spelled cs ≡ each_of pair_byte (first_chunks 2 (length cs / 2) cs)
+pairs-even cs h = pairs-from (length cs / 2) cs (omega arith)

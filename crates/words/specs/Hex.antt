@@ -1,5 +1,5 @@
 -- The bytes that a text of hexadecimal digits spells.
-use Rattle.std.specs.Prelude.{ℕ, ◌+◌, ◌-◌, ◌*◌, ◌<◌, cond, ◌&&◌, List, [], ◌∷◌, length, Some, None, Option, ◌==◌, nat_le, slice_index}
+use Rattle.std.specs.Prelude.{ℕ, ◌+◌, ◌-◌, ◌*◌, cond, ◌&&◌, List, [], ◌∷◌, length, Some, None, Option, ◌==◌, nat_le, slice_index}
 use Rattle.std.specs.Option.{option_map}
 
 -- what a digit stands for: 0 to 9, A to F or a to f
@@ -8,11 +8,6 @@ digit_of c =
     cond (nat_le 48 c && nat_le c 57) (Some (c - 48))
     (cond (nat_le 65 c && nat_le c 70) (Some (c - 65 + 10))
     (cond (nat_le 97 c && nat_le c 102) (Some (c - 97 + 10)) None))
-
--- a number below n, or none
-abbrev pub SomeBelow : ℕ → Option ℕ → Type 0
-SomeBelow n None = Unit {0}
-SomeBelow n (Some d) = d < n
 
 -- two digits as a byte
 abbrev pub paired : Option ℕ → Option ℕ → Option ℕ

@@ -1,11 +1,9 @@
 -- Text that is cut at a separator.
-use Rattle.std.specs.Prelude.{ℕ, suc, cond, List, [], ◌∷◌, Some, None, Option, ◌==◌}
+use Rattle.std.specs.Prelude.{◌≡◌, ℕ, cond, List, [], ◌∷◌, Some, None, Option, ◌==◌}
+use Rattle.std.specs.Fn.{Shared, FnReturnsAt}
+use Rattle.std.specs.List.{slice_split}
+use denote.Ref.{Bor}
 use Rattle.std.specs.Option.{option_map}
-
--- the place of the first separator, or the length
-abbrev pub first_at : ℕ → List ℕ → ℕ
-first_at sep [] = 0
-first_at sep (c ∷ cs) = cond (c == sep) 0 (suc (first_at sep cs))
 
 -- what stands before the first separator, and what stands behind it
 abbrev pub head_of : ℕ → List ℕ → List ℕ
@@ -23,13 +21,8 @@ behind_name (n ∷ ns) [] = None
 behind_name (n ∷ ns) (c ∷ cs) = cond (c == n) (behind_name ns cs) None
 
 -- the pieces between separators
-abbrev pub onto : ℕ → List (List ℕ) → List (List ℕ)
-onto c [] = (c ∷ []) ∷ []
-onto c (p ∷ ps) = (c ∷ p) ∷ ps
-
 abbrev pub pieces : ℕ → List ℕ → List (List ℕ)
-pieces sep [] = [] ∷ []
-pieces sep (c ∷ cs) = cond (c == sep) ([] ∷ pieces sep cs) (onto c (pieces sep cs))
+pieces sep text = slice_split (λ c. c == sep) text
 
 -- what each piece stands for, if every one stands for something
 abbrev pub ahead : {A : Type 0} → Option A → Option (List A) → Option (List A)
@@ -39,3 +32,7 @@ ahead (Some x) rest = option_map (λ xs. x ∷ xs) rest
 abbrev pub each_of : {A : Type 0} → (List ℕ → Option A) → List (List ℕ) → Option (List A)
 each_of read [] = Some []
 each_of read (t ∷ ts) = ahead (read t) (each_of read ts)
+
+-- each call of f answers what a text means
+abbrev pub Reads : {F A : Type 0} → Shared F (Bor (List ℕ) × Unit {0}) (Option A) → F → (List ℕ → Option A) → Type 0
+Reads {A = A} g f meant = (x : List ℕ) (r : Option A) → FnReturnsAt g f x r → r ≡ meant x

@@ -1,46 +1,32 @@
 // Bytes that are written as text, two hexadecimal digits to a byte.
 ghost use Rattle.std.specs.Prelude.{◌≡◌, IfOk, vec_items};
 ghost use Rattle.std.specs.Option.{option_map};
-ghost use Rattle.words.specs.Hex.{digit_of, byte_of, spelled, written, SomeBelow};
+ghost use Rattle.words.specs.Hex.{byte_of, spelled, written};
 
 use std::alloc::{AllocError, Global};
 
-// What a digit stands for.
-fn digit(c: u8) -> Option<u8>
-    ensures value { result ≡ digit_of c }
-    ensures bound { SomeBelow 16 result }
-{
-    match c {
-        b'0'..=b'9' => Some(c - b'0'),
-        b'A'..=b'F' => Some(c - b'A' + 10),
-        b'a'..=b'f' => Some(c - b'a' + 10),
-        _ => None,
-    }
-}
-
-// The byte of two digits, the high one first.
+// The byte of two digits, the high one first. (`as`: the check alone does not find that `try_from` succeeds here.)
 fn byte(high: u8, low: u8) -> Option<u8>
     ensures value { result ≡ byte_of high low }
 {
-    match (digit(high), digit(low)) {
-        (Some(h), Some(l)) => Some(h * 16 + l),
-        _ => None,
-    }
+    let h = char::from(high).to_digit(16)?;
+    let l = char::from(low).to_digit(16)?;
+    Some((h * 16 + l) as u8)
 }
 
 // The bytes that a text spells, or none where its length is odd or a character is no digit.
 fn bytes_of(heap: Global, text: &[u8]) -> Result<Option<Vec<u8>>, AllocError>
     ensures value { IfOk result (λ o. option_map vec_items o ≡ spelled text.now) }
 {
-    if text.len() % 2 != 0 {
+    let (pairs, []) = text.as_chunks::<2>() else {
         return Ok(None);
-    }
+    };
     let mut bytes = Vec::new(heap);
-    for i in 0..text.len() / 2 {
-        match byte(text[2 * i], text[2 * i + 1]) {
-            Some(b) => bytes.push(b)?,
-            None => return Ok(None),
-        }
+    for &[high, low] in pairs {
+        let Some(b) = byte(high, low) else {
+            return Ok(None);
+        };
+        bytes.push(b)?;
     }
     Ok(Some(bytes))
 }
@@ -49,11 +35,9 @@ fn bytes_of(heap: Global, text: &[u8]) -> Result<Option<Vec<u8>>, AllocError>
 pub fn bytes_written(heap: Global, word: &[u8]) -> Result<Option<Vec<u8>>, AllocError>
     ensures value { IfOk result (λ o. option_map vec_items o ≡ written word.now) }
 {
-    if word.is_empty() {
-        return Ok(None);
+    match word {
+        [] => Ok(None),
+        [b'-'] => Ok(Some(Vec::new(heap))),
+        _ => bytes_of(heap, word),
     }
-    if word.len() == 1 && word[0] == b'-' {
-        return Ok(Some(Vec::new(heap)));
-    }
-    bytes_of(heap, word)
 }

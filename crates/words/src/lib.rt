@@ -1,4 +1,4 @@
-// The words of commands: text cut at separators, and numbers, bytes and nodes that are written as text.
+// The words of commands: text cut at separators, and numbers, bytes, nodes and calls written as text; and why a line is refused.
 #![tactic(auto)]
 
 mod call;
@@ -6,6 +6,8 @@ mod calls;
 mod hex;
 mod nodes;
 mod numbers;
+mod pieces;
+mod refusal;
 mod text;
 
 pub use call::Call;
@@ -13,4 +15,5 @@ pub use calls::calls_written;
 pub use hex::bytes_written;
 pub use nodes::nodes_written;
 pub use numbers::{byte, room};
-pub use text::{behind_name, head, tail};
+pub use refusal::Refusal;
+pub use text::{behind_name, head, split_once, tail};

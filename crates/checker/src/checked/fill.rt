@@ -7,26 +7,12 @@ ghost use Rattle.table.specs.Formed.{Formed};
 ghost use Rattle.table.specs.Tabled.{built_in, bytes_of};
 ghost use Rattle.checker.specs.Asking.{Worded};
 ghost use Rattle.checker.specs.Checking.{Accepted, FirstFault, check_of, program_in, forms_held, types_held};
-ghost use Rattle.checker.specs.Described.{program_of};
 ghost use Rattle.checker.specs.Laws.{Laws, RuleNamed};
 
 use super::Checked;
 use crate::descent::Descent;
 use packed::{Fault, Node};
 use table::{Layout, Table};
-
-impl<'a> Descent<'a> {
-    // The program of a table.
-    fn of(table: &Table<'a>) -> Descent<'a>
-        ensures value { program_of result ≡ program_in (bytes_of table.now) table.now.layout }
-    {
-        Descent {
-            shapes: table.shapes(),
-            functions: table.functions(),
-            rows: table.rows(),
-        }
-    }
-}
 
 impl<'a> Checked<'a> {
     // The least program: main gives the number 0.
@@ -49,8 +35,8 @@ impl<'a> Checked<'a> {
     {
         let mut table = self.table;
         table.read(bytes)?;
-        Descent::of(&table).bodies()?;
-        self.table = table;
+        Descent::from(&table).bodies()?;
+        *self = Checked { table };
         Ok(())
     }
 
@@ -61,8 +47,7 @@ impl<'a> Checked<'a> {
         ensures laws { Laws (program_in (bytes_of result) result.layout) }
         ensures worded { Worded (program_in (bytes_of result) result.layout) }
     {
-        let held = self.table;
-        held
+        self.table
     }
 
     // Packs the nodes of one tree of type `ty` of the program into the front of `out`, and answers how many bytes it took.

@@ -1,6 +1,6 @@
 // What is asked of a context.
 ghost use Rattle.std.specs.Prelude.{◌≡◌};
-ghost use Rattle.checker.specs.Contexts.{at, used, fresh, is_in, region_of, frontier_in, frontier_at};
+ghost use Rattle.checker.specs.Contexts.{at, is_in, region_of, frontier_in, frontier_at};
 
 use super::{Context, Frontier, Location, Progress};
 use crate::kind::Kind;
@@ -11,10 +11,7 @@ impl Progress {
     pub fn frontier(&self, region: Option<u8>) -> Option<Frontier>
         ensures value { result ≡ frontier_in self.now region }
     {
-        match region {
-            Some(r) => look(&self.frontiers, usize::from(r)),
-            None => None,
-        }
+        region.and_then(|r| look(&self.frontiers, usize::from(r)))
     }
 
     pub fn is_unwritten(&self, l: u16) -> bool
@@ -43,10 +40,7 @@ impl Context {
     pub fn region_of(&self, l: u16) -> Option<u8>
         ensures value { result ≡ region_of self.now l }
     {
-        match self.location(l) {
-            Some(location) => location.region,
-            None => None,
-        }
+        self.location(l).and_then(|location| location.region)
     }
 
     // The frontier of the region of location l.

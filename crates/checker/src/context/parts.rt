@@ -1,77 +1,73 @@
 // Trees taken apart: what a branch brings into scope, and has leave it.
-ghost use Rattle.std.specs.Prelude.{◌≡◌, ℕ, ◌+◌, ◌<◌, ◌≤◌, length};
-ghost use Rattle.checker.specs.declared.context.Rule.TheVariants as rule;
-ghost use Rattle.checker.specs.Contexts.{fill, part, parts, parted, unparted};
+ghost use Rattle.std.specs.Prelude.{◌≡◌, ◌≤◌};
+ghost use Rattle.checker.specs.Contexts.{parted, unparted};
 
 use super::{Context, Location, Rule};
 use crate::conditions::parts_of;
 use crate::kind::Kind;
-use crate::names::{clear_names, enter};
+use crate::names::enter_names;
 use packed::Constructor;
 
-// Part i of a tree whose first subtree lies at l.
-fn part_of(form: &Constructor, l: u16, i: usize) -> Kind
-    requires few { (form.now.fields.integers ≤ 4) × (form.now.fields.subtrees ≤ 4) }
-    requires inside { i < parts form.now }
-    requires low { l < 256 }
-    ensures value { result ≡ part form.now l i }
-{
-    let integers = usize::from(form.fields.integers);
-    if i < integers {
-        return Kind::Integer;
-    }
-    let j = i - integers;
-    Kind::Tree {
-        of: form.fields.types[j],
-        at: l + j as u16,
-    }
+// A tree of a constructor in region `home`, whose parts are variables from x on, and whose subtrees lie at l and behind.
+#[derive(Clone, Copy)]
+pub struct Parts<'a> {
+    pub home: Option<u8>,
+    pub form: &'a Constructor,
+    pub x: u8,
+    pub l: u8,
 }
 
-fn fill_variables(table: &mut [Option<Kind>], form: &Constructor, x: u8, l: u16)
-    requires few { (form.now.fields.integers ≤ 4) × (form.now.fields.subtrees ≤ 4) }
-    requires low { l < 256 }
-    ensures after { table.new ≡ fill table.old x (part form.now l) 0 (parts form.now) }
-{
-    for i in 0..parts_of(form) {
-        enter(table, x as usize + i, Some(part_of(form, l, i)));
-    }
-}
-
-fn fill_locations(table: &mut [Option<Location>], home: Option<u8>, l: u8, count: usize)
-    requires { count < 256 }
-    ensures after { table.new ≡ fill table.old l (λ i. record { region = home; rule = rule.Free }) 0 count }
-{
-    for i in 0..count {
+impl Context {
+    // The parts of a tree come into scope.
+    pub fn part(&mut self, parts: Parts)
+        requires { (parts.form.now.fields.integers ≤ 4) × (parts.form.now.fields.subtrees ≤ 4) }
+        ensures after { self.new ≡ parted self.old parts.entry.home parts.entry.form.now parts.entry.x parts.entry.l }
+    {
+        let Parts { home, form, x, l } = parts;
+        let first = usize::from(x);
+        let integers = usize::from(form.fields.integers);
+        let subtrees = usize::from(form.fields.subtrees);
+        let types = form.fields.types;
+        enter_names(
+            &mut self.variables,
+            first,
+            integers,
+            |_| Some(Kind::Integer),
+        );
+        // (`as` loses nothing: j is below 4.)
+        enter_names(&mut self.variables, first + integers, subtrees, |j| {
+            Some(Kind::Tree {
+                of: types[j],
+                at: u16::from(l) + j as u16,
+            })
+        });
         let location = Location {
             region: home,
             rule: Rule::Free,
         };
-        enter(table, l as usize + i, Some(location));
-    }
-}
-
-impl Context {
-    // The parts of a tree in region `home` come into scope.
-    pub fn part(&mut self, home: Option<u8>, form: &Constructor, x: u8, l: u8)
-        requires { (form.now.fields.integers ≤ 4) × (form.now.fields.subtrees ≤ 4) }
-        ensures after { self.new ≡ parted self.old home form.now x l }
-    {
-        fill_variables(&mut self.variables, form, x, u16::from(l));
-        fill_locations(
+        enter_names(
             &mut self.locations,
-            home,
-            l,
-            usize::from(form.fields.subtrees),
+            usize::from(l),
+            subtrees,
+            |_| Some(location),
         );
     }
 
     // They leave it.
-    pub fn unpart(&mut self, home: Option<u8>, form: &Constructor, x: u8, l: u8)
-        ensures after { self.new ≡ unparted self.old home form.now x l }
+    pub fn unpart(&mut self, parts: Parts)
+        ensures after { self.new ≡ unparted self.old parts.entry.home parts.entry.form.now parts.entry.x parts.entry.l }
     {
+        let Parts { home, form, x, l } = parts;
         let subtrees = form.fields.subtrees;
-        clear_names(&mut self.variables, usize::from(x), parts_of(form));
-        clear_names(&mut self.locations, usize::from(l), usize::from(subtrees));
+        enter_names(&mut self.variables, usize::from(x), parts_of(form), |_| {
+            None
+        });
+        enter_names(
+            &mut self.locations,
+            usize::from(l),
+            usize::from(subtrees),
+            |_| None,
+        );
         self.progress.shut(home, u16::from(l), subtrees);
     }
 }

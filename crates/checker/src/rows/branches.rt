@@ -1,37 +1,29 @@
 // The branches of a case.
-ghost use Rattle.std.specs.Prelude.{◌≡◌, ℕ, ◌+◌, ◌<◌, ◌≤◌, length};
+ghost use Rattle.std.specs.Prelude.{◌≡◌, ℕ, ◌+◌, ◌<◌, ◌≤◌, length, IfOk};
 ghost use Rattle.std.specs.List.{slice_get};
-ghost use Rattle.packed.specs.declared.fault.Reason.TheVariants as reason;
 ghost use Rattle.table.specs.Held.{rows_of};
-ghost use Rattle.table.specs.Sections.{onward};
-ghost use Rattle.checker.specs.Contexts.{at as standing};
 ghost use Rattle.checker.specs.Described.{program_of};
-ghost use Rattle.checker.specs.Giving.{Gives, GivesArm, home_in};
-ghost use Rattle.checker.specs.Verdict.{Done, asking, alike, done_with, following, term_of, follow_of, branch_at, branching};
+ghost use Rattle.checker.specs.Giving.{GivesArm, GivesLater, link};
+ghost use Rattle.checker.specs.Verdict.{done_with, following, term_of, follow_of, branch_at, branching};
 
 use super::arm::Arm;
+use crate::context::parts::Parts;
 use crate::context::{Context, Progress};
-use crate::descent::Descent;
+use crate::descent::{Descent, RowAt};
 use crate::fault::{ask, fault};
 use crate::kind::Kind;
 use packed::{Fault, Reason};
 use table::Row;
 
-// What the first branch of a case gave, and how far writing had come then.
+// A case whose first branch is read: the region of its tree, how far writing had come before the branches, what the first
+// of them gave, and how far writing had come then. Each further branch starts as the first did, and has to end alike.
 #[derive(Clone, Copy)]
-pub struct First {
+pub struct Case<'a> {
+    pub row: RowAt<'a>,
+    pub home: Option<u8>,
+    pub start: Progress,
     pub kind: Kind,
     pub end: Progress,
-}
-
-// The region of a variable's tree.
-pub fn home_of(cx: &Context, x: u8) -> Option<u8>
-    ensures value { result ≡ home_in cx.now (standing cx.now.variables x) }
-{
-    match cx.variable(x) {
-        Some(Kind::Tree { at, .. }) => cx.region_of(at),
-        _ => None,
-    }
 }
 
 impl<'a> Descent<'a> {
@@ -39,22 +31,23 @@ impl<'a> Descent<'a> {
     #[cycle(descend)]
     pub fn branch_at(&self, b: usize, home: Option<u8>, cx: &mut Context) -> Result<Arm, Fault>
         ensures gives { (f : ℕ) → length (rows_of self.now.rows) ≤ b + 1 + f → GivesArm result cx.new (branch_at (program_of self.now) (term_of (program_of self.now) f) b home cx.old (slice_get (rows_of self.now.rows) b)) }
+        ensures inside { IfOk result (λ _. b < length (rows_of self.now.rows)) }
     {
-        if b >= self.rows.len() {
+        let Some(Row::Branch { form, x0, l0, next }) = self.rows.get(b) else {
             return Err(fault(Reason::RowOrder, b));
+        };
+        RowAt {
+            program: &*self,
+            at: b,
         }
-        match self.rows.get(b) {
-            Some(Row::Branch { form, x0, l0, next }) => self.branch(
-                b, home, form, x0, l0, next, cx,
-            ),
-            _ => Err(fault(Reason::RowOrder, b)),
-        }
+        .branch(home, form, x0, l0, next, cx)
     }
+}
 
+impl<'a> RowAt<'a> {
     #[cycle(descend)]
     fn branch(
         &self,
-        b: usize,
         home: Option<u8>,
         form: u8,
         x: u8,
@@ -62,69 +55,49 @@ impl<'a> Descent<'a> {
         next: u16,
         cx: &mut Context,
     ) -> Result<Arm, Fault>
-        requires { (b < length (rows_of self.now.rows)) × (b < 1024) }
-        ensures gives { (f : ℕ) → length (rows_of self.now.rows) ≤ b + 1 + f → GivesArm result cx.new (branching (program_of self.now) (term_of (program_of self.now) f) b home cx.old form x l next) }
+        ensures gives { (f : ℕ) → length (rows_of self.now.program.now.rows) ≤ self.now.at + 1 + f → GivesArm result cx.new (branching (program_of self.now.program.now) (term_of (program_of self.now.program.now) f) self.now.at home cx.old form x l next) }
     {
-        self.ask_branch(b, form, x, l, next, cx)?;
-        let Some(f) = self.shapes.constructor(form) else {
-            return Err(fault(Reason::Kind, b));
+        let f = self
+            .ask_branch(form, x, l, cx)?
+            .ok_or(self.fault(Reason::Kind))?;
+        let parts = Parts {
+            home,
+            form: &f,
+            x,
+            l,
         };
-        cx.part(home, &f, x, l);
-        let kind = self.term(b + 1, cx)?;
+        cx.part(parts);
+        let kind = self.program.term(self.at + 1, cx)?;
         let stays = kind.lies_within(u16::from(l), f.fields.subtrees);
-        ask(!stays, Reason::ChildLeft, b)?;
-        cx.unpart(home, &f, x, l);
+        self.ask(!stays, Reason::ChildLeft)?;
+        cx.unpart(parts);
+        let next = (next != 0).then_some(usize::from(next));
         Ok(Arm { kind, next })
     }
+}
 
-    // The branches from row b on of the case at row `at`: each starts as the first did, and has to end as it ended.
+impl<'a> Case<'a> {
+    // The branches from row b on.
     #[cycle(descend)]
-    pub fn follow(
-        &self,
-        at: usize,
-        home: Option<u8>,
-        start: &Progress,
-        b: usize,
-        first: &First,
-        cx: &mut Context,
-    ) -> Result<Kind, Fault>
-        ensures gives { (f : ℕ) (c : Context) (d : Done) → c.progress ≡ start.now → d.kind ≡ first.now.kind → d.after.progress ≡ first.now.end → length (rows_of self.now.rows) ≤ b + f → Gives result cx.new (follow_of (program_of self.now) f at c home b cx.old d) }
+    fn follow(&self, b: usize, cx: &mut Context) -> Result<Kind, Fault>
+        ensures gives { GivesLater self.now b (λ f c first. follow_of (program_of self.now.row.program.now) f self.now.row.at c self.now.home b cx.old first) result cx.new }
     {
-        if b >= self.rows.len() {
-            return Err(fault(Reason::RowOrder, b));
-        }
-        cx.progress = *start;
-        match self.branch_at(b, home, cx) {
-            Ok(arm) => self.follow_on(at, home, start, b, arm, first, cx),
-            Err(e) => Err(e),
-        }
+        cx.progress = self.start;
+        let arm = self.row.program.branch_at(b, self.home, cx)?;
+        self.row.ask_alike(self.kind, &self.end, arm.kind, cx)?;
+        self.behind(b, arm, cx)
     }
 
-    // Behind the branch at row b, which gave this.
+    // The branches behind the one at row b, which gave this.
     #[cycle(descend)]
-    fn follow_on(
-        &self,
-        at: usize,
-        home: Option<u8>,
-        start: &Progress,
-        b: usize,
-        arm: Arm,
-        first: &First,
-        cx: &mut Context,
-    ) -> Result<Kind, Fault>
-        requires { b < length (rows_of self.now.rows) }
-        ensures gives { (f : ℕ) (c : Context) (d : Done) → c.progress ≡ start.now → d.kind ≡ first.now.kind → d.after.progress ≡ first.now.end → length (rows_of self.now.rows) ≤ b + 1 + f → Gives result cx.new (onward (asking (alike first.now.kind first.now.end arm.kind cx.old.progress) reason.ArmsDiffer at) (λ _. following (program_of self.now) (follow_of (program_of self.now) f at c home) b arm.next d (done_with arm.kind cx.old))) }
+    pub fn behind(&self, b: usize, arm: Arm, cx: &mut Context) -> Result<Kind, Fault>
+        requires { b < length (rows_of self.now.row.program.now.rows) }
+        ensures gives { GivesLater self.now (b + 1) (λ f c first. following (program_of self.now.row.program.now) (follow_of (program_of self.now.row.program.now) f self.now.row.at c self.now.home) b (link arm.next) first (done_with arm.kind cx.old)) result cx.new }
     {
-        let alike = first.kind.is_alike(arm.kind) & first.end.is_same(&cx.progress);
-        ask(alike, Reason::ArmsDiffer, at)?;
-        if arm.next == 0 {
+        let Some(next) = arm.next else {
             return Ok(arm.kind);
-        }
-        let next = usize::from(arm.next);
-        if b < next {
-            self.follow(at, home, start, next, first, cx)
-        } else {
-            Err(fault(Reason::RowOrder, b))
-        }
+        };
+        ask(b < next, Reason::RowOrder, b)?;
+        self.follow(next, cx)
     }
 }

@@ -1,108 +1,66 @@
 // Rows without children.
-ghost use Rattle.std.specs.Prelude.{◌≡◌, ℕ, Option};
 ghost use Rattle.table.specs.declared.row.Row.TheVariants as row;
 ghost use Rattle.checker.specs.Described.{program_of};
-ghost use Rattle.checker.specs.Giving.{Gives};
-ghost use Rattle.checker.specs.Verdict.{Reader, Follower, row_of};
+ghost use Rattle.checker.specs.Giving.{Gives, GivesRow};
+ghost use Rattle.checker.specs.Verdict.{constructing, calling};
 
 use crate::context::Context;
-use crate::descent::Descent;
-use crate::fault::fault;
+use crate::descent::RowAt;
 use crate::kind::{INTEGER, Kind};
 use packed::{Fault, Reason};
 
-impl<'a> Descent<'a> {
-    pub fn variable_row(&self, at: usize, x: u8, cx: &mut Context) -> Result<Kind, Fault>
-        ensures gives { (read : Reader (program_of self.now)) (follow : ℕ → Context → Option ℕ → Follower (program_of self.now)) → Gives result cx.new (row_of (program_of self.now) read follow at cx.old (row.Variable x)) }
+impl<'a> RowAt<'a> {
+    pub fn variable_row(&self, x: u8, cx: &Context) -> Result<Kind, Fault>
+        ensures gives { GivesRow self.now (row.Variable x) cx.now result cx.now }
     {
-        self.ask_variable(at, x, cx)?;
-        match cx.variable(x) {
-            Some(kind) => Ok(kind),
-            None => Err(fault(Reason::Scope, at)),
-        }
+        cx.variable(x).ok_or(self.fault(Reason::Scope))
     }
 
-    pub fn sum_row(&self, at: usize, x: u8, y: u8, cx: &mut Context) -> Result<Kind, Fault>
-        ensures gives { (read : Reader (program_of self.now)) (follow : ℕ → Context → Option ℕ → Follower (program_of self.now)) → Gives result cx.new (row_of (program_of self.now) read follow at cx.old (row.Sum x y)) }
+    // A sum, and likewise a difference.
+    pub fn sum_row(&self, x: u8, y: u8, cx: &Context) -> Result<Kind, Fault>
+        ensures gives { GivesRow self.now (row.Sum x y) cx.now result cx.now }
     {
-        self.ask_sum(at, x, y, cx)?;
-        Ok(Kind::Integer)
-    }
-
-    pub fn difference_row(&self, at: usize, x: u8, y: u8, cx: &mut Context) -> Result<Kind, Fault>
-        ensures gives { (read : Reader (program_of self.now)) (follow : ℕ → Context → Option ℕ → Follower (program_of self.now)) → Gives result cx.new (row_of (program_of self.now) read follow at cx.old (row.Difference x y)) }
-    {
-        self.ask_sum(at, x, y, cx)?;
+        self.ask_integers(x, y, cx)?;
         Ok(Kind::Integer)
     }
 
     pub fn construct_row(
         &self,
-        at: usize,
         form: u8,
         l: u8,
-        v0: u8,
-        v1: u8,
-        v2: u8,
-        v3: u8,
-        v4: u8,
-        v5: u8,
-        v6: u8,
-        v7: u8,
+        variables: &[u8; 8],
         cx: &mut Context,
     ) -> Result<Kind, Fault>
-        ensures gives { (read : Reader (program_of self.now)) (follow : ℕ → Context → Option ℕ → Follower (program_of self.now)) → Gives result cx.new (row_of (program_of self.now) read follow at cx.old (row.Construct form l v0 v1 v2 v3 v4 v5 v6 v7)) }
+        ensures gives { Gives result cx.new (constructing (program_of self.now.program.now) self.now.at form l variables.now cx.old) }
     {
-        self.ask_construct(at, form, l, &[v0, v1, v2, v3, v4, v5, v6, v7], cx)?;
-        let Some(f) = self.shapes.constructor(form) else {
-            return Err(fault(Reason::Kind, at));
-        };
         let to = u16::from(l);
+        let f = self.ask_construct(form, to, variables, cx)?;
         cx.write(to);
         Ok(Kind::Tree { of: f.of, at: to })
     }
 
     pub fn call_row(
         &self,
-        at: usize,
         g: u8,
         l: u8,
-        v0: u8,
-        v1: u8,
-        v2: u8,
-        v3: u8,
+        variables: &[u8; 4],
         cx: &mut Context,
     ) -> Result<Kind, Fault>
-        ensures gives { (read : Reader (program_of self.now)) (follow : ℕ → Context → Option ℕ → Follower (program_of self.now)) → Gives result cx.new (row_of (program_of self.now) read follow at cx.old (row.Call g l v0 v1 v2 v3)) }
+        ensures gives { Gives result cx.new (calling (program_of self.now.program.now) self.now.at g l variables.now cx.old) }
     {
-        self.ask_call(at, g, l, &[v0, v1, v2, v3], cx)?;
-        let Some(f) = self.functions.get(usize::from(g)) else {
-            return Err(fault(Reason::Kind, at));
-        };
-        if f.result == INTEGER {
-            return Ok(Kind::Integer);
-        }
         let to = u16::from(l);
-        cx.write(to);
-        Ok(Kind::Tree {
-            of: f.result,
-            at: to,
-        })
+        let f = self.ask_call(g, to, variables, cx)?;
+        if f.result != INTEGER {
+            cx.write(to);
+        }
+        Ok(Kind::of(f.result, to))
     }
 
     // A branch that no case has.
-    pub fn stray_branch(
-        &self,
-        at: usize,
-        form: u8,
-        x0: u8,
-        l0: u8,
-        next: u16,
-        cx: &mut Context,
-    ) -> Result<Kind, Fault>
-        ensures gives { (read : Reader (program_of self.now)) (follow : ℕ → Context → Option ℕ → Follower (program_of self.now)) → Gives result cx.new (row_of (program_of self.now) read follow at cx.old (row.Branch form x0 l0 next)) }
+    pub fn stray_branch(&self, form: u8, x: u8, l: u8, cx: &Context) -> Result<Kind, Fault>
+        ensures gives { GivesRow self.now (row.Branch form x l 0) cx.now result cx.now }
     {
-        self.ask_branch(at, form, x0, l0, next, cx)?;
-        Err(fault(Reason::RowOrder, at))
+        self.ask_branch(form, x, l, cx)?;
+        Err(self.fault(Reason::RowOrder))
     }
 }

@@ -1,7 +1,7 @@
 // Shapes made from descriptions, and what they answer.
-ghost use Rattle.std.specs.Prelude.{◌≡◌, ◌≤◌, false, length, take, is_some, IfSome, IfOk, None, Ok, Err};
+ghost use Rattle.std.specs.Prelude.{◌≡◌, ◌≤◌, ◌&&◌, false, not, length, take, sum, nat_eq, nat_le, nat_lt, position, is_some, IfSome, IfOk, None, Ok, Err};
 ghost use Rattle.std.specs.List.{slice_get};
-ghost use Rattle.packed.specs.Forms.{either, fair, fields_limit, form_at, limit_of, numbered, size_limit, total};
+ghost use Rattle.packed.specs.Forms.{either, all, fair, fields_limit, form_at, limit_of, numbered, size_limit, total};
 ghost use Rattle.packed.specs.Packing.{integers_of};
 ghost use Rattle.packed.specs.Shaped.{broken, forms_of, sizes_of};
 
@@ -21,19 +21,45 @@ const UNUSED: Constructor = Constructor {
     },
 };
 
-// How many constructors types of these sizes have; refuses the first size that is not one of 1 to 16.
+// The first size that is not one of 1 to 16.
+fn first_missized(sizes: &[u8]) -> Option<usize>
+    ensures { result ≡ position (λ n. not (nat_le 1 n && nat_le n 16)) sizes.now }
+{
+    sizes.iter().position(|size| !(1..=MAX_SIZE).contains(size))
+}
+
+// How many constructors types of these sizes have.
+// (At most 16 sizes is asked by each below: a type for a lent slice would be made for these four alone.)
+fn sum_of(sizes: &[u8]) -> usize
+    requires { length sizes.now ≤ 16 }
+    ensures { result ≡ sum sizes.now }
+{
+    sizes.iter().map(|size| usize::from(*size)).sum()
+}
+
+// The same, and refuses the first size that is not one of 1 to 16.
 fn total_of(sizes: &[u8]) -> Result<usize, Limit>
     requires { length sizes.now ≤ 16 }
     ensures { result ≡ either (size_limit 0 sizes.now) (Ok (total sizes.now)) Err }
 {
-    let mut sum = 0;
-    for (of, size) in sizes.iter().enumerate() {
-        if *size < 1 || *size > MAX_SIZE {
-            return Err(Limit::TypeSize { of });
-        }
-        sum += *size as usize;
+    match first_missized(sizes) {
+        Some(of) => Err(Limit::TypeSize { of }),
+        None => Ok(sum_of(sizes)),
     }
-    Ok(sum)
+}
+
+// Whether each of these places of subtrees names a type.
+fn name_types(places: &[u8], types: usize) -> bool
+    ensures { result ≡ all (λ t. nat_lt t types) places.now }
+{
+    places.iter().all(|ty| usize::from(*ty) < types)
+}
+
+// Whether each of these places holds 255.
+fn are_blank(places: &[u8]) -> bool
+    ensures { result ≡ all (λ t. nat_eq t 255) places.now }
+{
+    places.iter().all(|ty| *ty == NO_TYPE)
 }
 
 // Whether there are at most four integers and four subtrees, each place of a subtree names a type,
@@ -44,29 +70,25 @@ fn is_fair(fields: &Fields, types: usize) -> bool
     if fields.integers > MAX_INTEGERS || fields.subtrees > MAX_SUBTREES {
         return false;
     }
-    for (i, ty) in fields.types.iter().enumerate() {
-        let fits = if i < fields.subtrees as usize {
-            (*ty as usize) < types
-        } else {
-            *ty == NO_TYPE
-        };
-        if !fits {
-            return false;
-        }
-    }
-    true
+    let (named, behind) = fields.types.split_at(usize::from(fields.subtrees));
+    name_types(named, types) && are_blank(behind)
+}
+
+// The first constructor whose fields are not fair.
+fn first_unfair(fields: &[Fields], types: usize) -> Option<usize>
+    ensures { result ≡ position (λ f. not (fair types f)) fields.now }
+{
+    fields.iter().position(|one| !is_fair(one, types))
 }
 
 // Refuses the first constructor whose fields are not fair.
 fn test_fields(fields: &[Fields], types: usize) -> Result<(), Limit>
     ensures { result ≡ either (fields_limit types 0 fields.now) (Ok tt) Err }
 {
-    for (number, one) in fields.iter().enumerate() {
-        if !is_fair(one, types) {
-            return Err(Limit::Constructor { number });
-        }
+    match first_unfair(fields, types) {
+        Some(number) => Err(Limit::Constructor { number }),
+        None => Ok(()),
     }
-    Ok(())
 }
 
 // The constructors with these fields: each type in turn takes as many as its size says.
@@ -80,18 +102,16 @@ fn number(sizes: &[u8], fields: &[Fields]) -> [Constructor; MAX_CONSTRUCTORS]
     ensures filled { take (length fields.now) result ≡ numbered 0 sizes.now fields.now }
 {
     let mut constructors = [UNUSED; MAX_CONSTRUCTORS];
-    // The type that takes constructors, and how many of its own are still to come.
-    let mut of = 0;
+    // The type that takes constructors, and how many of its own are still to come. (A chain is no plainer: each size
+    // repeated as often as it says and flattened, zipped with the fields and with the places.)
+    let mut of: u8 = 0;
     let mut left = sizes[0];
     for (i, one) in fields.iter().enumerate() {
         if left == 0 {
             of += 1;
-            left = sizes[of];
+            left = sizes[usize::from(of)];
         }
-        constructors[i] = Constructor {
-            of: of as u8,
-            fields: *one,
-        };
+        constructors[i] = Constructor { of, fields: *one };
         left -= 1;
     }
     constructors
@@ -104,7 +124,7 @@ fn padded(sizes: &[u8]) -> [u8; MAX_TYPES]
     ensures front { take (length sizes.now) result ≡ sizes.now }
 {
     let mut all = [0; MAX_TYPES];
-    all[0..sizes.len()].copy_from_slice(sizes);
+    all[..sizes.len()].copy_from_slice(sizes);
     all
 }
 
@@ -151,12 +171,8 @@ impl Shapes {
         ensures value { result ≡ form_at (forms_of self.now) ty number }
         ensures cases { IfSome result (λ c. (c.fields.integers ≤ 4) × (c.fields.subtrees ≤ 4)) }
     {
-        let constructor = self.constructor(number)?;
-        if constructor.of == ty {
-            Some(constructor)
-        } else {
-            None
-        }
+        self.constructor(number)
+            .filter(|constructor| constructor.of == ty)
     }
 
     // How many integers the constructor of this number has; 0 where there is none.
@@ -164,10 +180,15 @@ impl Shapes {
         ensures value { result ≡ integers_of (forms_of self.now) number }
         ensures bound { result ≤ 4 }
     {
-        match self.constructor(number) {
-            Some(constructor) => constructor.fields.integers,
-            None => 0,
-        }
+        self.constructor(number)
+            .map_or(0, |constructor| constructor.fields.integers)
+    }
+
+    // The constructors, by number.
+    pub fn forms(&self) -> &[Constructor]
+        ensures { result.now ≡ forms_of self.now }
+    {
+        &self.constructors[..self.count]
     }
 
     // The constructor of this number, if there is one.
@@ -175,11 +196,6 @@ impl Shapes {
         ensures value { result ≡ slice_get (forms_of self.now) number }
         ensures cases { IfSome result (λ c. (c.fields.integers ≤ 4) × (c.fields.subtrees ≤ 4)) }
     {
-        let i = number as usize;
-        if i < self.count {
-            Some(self.constructors[i])
-        } else {
-            None
-        }
+        self.forms().get(usize::from(number)).copied()
     }
 }

@@ -1,75 +1,74 @@
 // Links made from rows, and what they answer.
-ghost use Rattle.std.specs.Prelude.{◌≡◌, ℕ, ◌+◌, ◌<◌, length, if◌then◌else◌, slice_index};
+ghost use Rattle.std.specs.Prelude.{◌≡◌, ℕ, ◌<◌, ◌≤◌, ◌⊎◌, length, nat_lt, if◌then◌else◌, IfSome, Some};
+ghost use Rattle.std.specs.Option.{MatchOption};
 ghost use Rattle.table.specs.Held.{rows_of};
-ghost use Rattle.table.specs.Linked.{case_in, link_in, named, taker_in};
-ghost use Rattle.table.specs.Links.{bound_end_at, case_for, case_of, is_case_at, next_at, taker_for, taker_of};
+ghost use Rattle.table.specs.Linked.{case_in, link_in, taker_in};
+ghost use Rattle.table.specs.Links.{bound_end_at, case_for, case_of, is_case_at, leads, taker_for, taker_of};
 
-use super::{Links, NONE, ROOM};
+// (`as` loses nothing here: rows are at most 1,024.)
+use super::{Links, ROOM};
 use crate::row::Row;
 use crate::rows::Rows;
 
-// The row at which the bound part of the let at row n ends; 0 where row n is no let.
-fn bound_end(rows: &Rows, n: usize) -> usize
-    ensures value { result ≡ bound_end_at (rows_of rows.now) n }
+// Whether row t is a let whose bound part ends behind row n.
+fn ends_behind(rows: &Rows, t: u16, n: usize) -> bool
+    ensures value { result ≡ nat_lt n (bound_end_at (rows_of rows.now) t) }
 {
-    match rows.get(n) {
-        Some(Row::Let { body, .. }) => body as usize,
-        _ => 0,
-    }
+    matches!(rows.get(usize::from(t)), Some(Row::Let { body, .. }) if n < usize::from(body))
 }
 
 // The taker of row n, where those of the rows below are known.
-fn taker_at(rows: &Rows, takers: &[u16; ROOM], n: usize) -> u16
+fn taker_at(rows: &Rows, takers: &[Option<u16>; ROOM], n: usize) -> Option<u16>
     requires some { 0 < n }
     requires few { n < 1024 }
-    requires known { (k : ℕ) → k < n → named (slice_index takers.now k) ≡ taker_of (rows_of rows.now) k }
-    ensures value { named result ≡ taker_of (rows_of rows.now) n }
+    requires known { (k : ℕ) → k < n → link_in takers.now k ≡ taker_of (rows_of rows.now) k }
+    ensures value { result ≡ taker_of (rows_of rows.now) n }
 {
     // A let below row t that binds row n binds row t too, so that of the rows below t its taker is the first that may.
     let mut t = n as u16 - 1;
-    while t != NONE && n >= bound_end(rows, t as usize) {
-        t = takers[t as usize];
+    while !ends_behind(rows, t, n) {
+        t = takers[usize::from(t)]?;
     }
-    t
+    Some(t)
 }
 
 // Each row's taker.
-fn takers_of(rows: &Rows) -> [u16; ROOM]
+fn takers_of(rows: &Rows) -> [Option<u16>; ROOM]
     ensures value { (n : ℕ) → n < length (rows_of rows.now) → link_in result n ≡ taker_of (rows_of rows.now) n }
     ensures all { (n : ℕ) → link_in result n ≡ taker_for (rows_of rows.now) n }
 {
-    let mut takers = [NONE; ROOM];
-    // Row 0 has none, since no row is below it.
+    let mut takers = [None; ROOM];
+    // By number, since each taker is found from those before it. Row 0 has none, since no row is below it.
     for n in 1..rows.len() {
         takers[n] = taker_at(rows, &takers, n);
     }
     takers
 }
 
-// The row to which row n leads, 0 for none, and that row's case, where row n's own case is `own`.
-fn lead(rows: &Rows, n: usize, own: u16) -> (usize, u16)
+// The row behind row n to which row n leads, and that row's case, where row n's own case is `own`.
+fn lead(rows: &Rows, n: usize, own: Option<u16>) -> Option<(usize, Option<u16>)>
     requires few { n < 1024 }
-    ensures to { result.0 ≡ (if is_case_at (rows_of rows.now) n then n + 1 else next_at (rows_of rows.now) n) }
-    ensures from { result.1 ≡ (if is_case_at (rows_of rows.now) n then n else own) }
+    ensures to { MatchOption result ((leads (rows_of rows.now) n ≤ n) ⊎ (length (rows_of rows.now) ≤ leads (rows_of rows.now) n)) (λ p. (p.0 ≡ leads (rows_of rows.now) n) × (n < p.0) × (p.0 < length (rows_of rows.now))) }
+    ensures from { IfSome result (λ p. p.1 ≡ (if is_case_at (rows_of rows.now) n then Some n else own)) }
 {
-    match rows.get(n) {
-        Some(Row::Case { .. }) => (n + 1, n as u16),
-        Some(Row::Branch { next, .. }) => (next as usize, own),
-        _ => (0, own),
-    }
+    let (to, case) = match rows.get(n)? {
+        Row::Case { .. } => (n + 1, Some(n as u16)),
+        Row::Branch { next, .. } => (usize::from(next), own),
+        _ => return None,
+    };
+    (n < to && to < rows.len()).then_some((to, case))
 }
 
 // Each row's case.
-fn cases_of(rows: &Rows) -> [u16; ROOM]
+fn cases_of(rows: &Rows) -> [Option<u16>; ROOM]
     ensures value { (n : ℕ) → n < length (rows_of rows.now) → link_in result n ≡ case_of (rows_of rows.now) n }
     ensures all { (n : ℕ) → link_in result n ≡ case_for (rows_of rows.now) n }
 {
-    let mut cases = [NONE; ROOM];
-    let count = rows.len();
-    for n in 0..count {
+    let mut cases = [None; ROOM];
+    // By number, since a row's case is handed to a row behind it.
+    for n in 0..rows.len() {
         // Of the rows below `to` that lead to it the highest counts: it comes last, and overwrites what the others said.
-        let (to, case) = lead(rows, n, cases[n]);
-        if n < to && to < count {
+        if let Some((to, case)) = lead(rows, n, cases[n]) {
             cases[to] = case;
         }
     }
@@ -77,13 +76,10 @@ fn cases_of(rows: &Rows) -> [u16; ROOM]
 }
 
 // The row that link n names.
-fn link(links: &[u16; ROOM], n: usize) -> Option<usize>
+fn link(links: &[Option<u16>; ROOM], n: usize) -> Option<usize>
     ensures value { result ≡ link_in links.now n }
 {
-    if n >= ROOM || links[n] == NONE {
-        return None;
-    }
-    Some(links[n] as usize)
+    links.get(n).copied().flatten().map(usize::from)
 }
 
 impl Links {

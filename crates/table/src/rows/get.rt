@@ -1,22 +1,21 @@
 // What is asked of rows.
-ghost use Rattle.std.specs.Prelude.{◌≡◌, ◌*◌, ◌≤◌, length};
+ghost use Rattle.std.specs.Prelude.{◌≡◌, ◌≤◌, length};
 ghost use Rattle.std.specs.List.{slice_get};
 ghost use Rattle.table.specs.Held.{rows_of};
 ghost use Rattle.table.specs.Order.{rows_from};
 
 use super::Rows;
-use crate::decoding::decode;
+use crate::records::Records;
 use crate::row::Row;
 
 impl<'a> Rows<'a> {
     // The rows of these records, each of which is one.
-    pub(crate) fn of(bytes: &'a [u8], count: usize) -> Rows<'a>
-        requires few { count ≤ 1024 }
-        requires sized { length bytes.now ≡ 16 * count }
-        requires whole { length (rows_from count bytes.now) ≡ count }
-        ensures value { rows_of result ≡ rows_from count bytes.now }
+    pub(crate) fn of(records: Records<'a, Row>) -> Rows<'a>
+        requires few { records.count ≤ 1024 }
+        requires whole { length (rows_from records.count records.bytes.now) ≡ records.count }
+        ensures value { rows_of result ≡ rows_from records.entry.count records.entry.bytes.now }
     {
-        Rows { bytes, count }
+        Rows { records }
     }
 
     // How many rows there are.
@@ -24,16 +23,13 @@ impl<'a> Rows<'a> {
         ensures value { result ≡ length (rows_of self.now) }
         ensures bound { result ≤ 1024 }
     {
-        self.count
+        self.records.len()
     }
 
     // Row n, if there is one.
     pub fn get(&self, n: usize) -> Option<Row>
         ensures value { result ≡ slice_get (rows_of self.now) n }
     {
-        if n >= self.count {
-            return None;
-        }
-        decode(&self.bytes[16 * n..16 * n + 16])
+        self.records.get(n)
     }
 }

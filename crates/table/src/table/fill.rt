@@ -15,10 +15,11 @@ ghost use Rattle.table.specs.Tabled.{built_in, bytes_of};
 use super::Table;
 use crate::functions::Functions;
 use crate::links::Links;
-use crate::reading::{NO_FIELDS, functions_in, parts, rows_in};
+use crate::reading::{NO_FIELDS, parts};
 use crate::row::Row;
 use crate::rows::Rows;
 use crate::section::{Layout, Section};
+use crate::sections::Sections;
 use packed::{Fault, Shapes};
 
 // The least table: main gives the number 0.
@@ -114,18 +115,29 @@ impl<'a> Table<'a> {
         self.shapes
     }
 
+    // What stands in its sections.
+    fn sections(&self) -> Sections<'a>
+        ensures bytes { result.bytes.now ≡ bytes_of self.now }
+        ensures layout { result.layout ≡ self.now.layout }
+    {
+        Sections {
+            bytes: self.bytes,
+            layout: self.layout,
+        }
+    }
+
     // Its functions.
     pub fn functions(&self) -> Functions<'a>
         ensures value { functions_of result ≡ functions_in (bytes_of self.now) self.now.layout }
     {
-        functions_in(self.bytes, &self.layout)
+        self.sections().functions()
     }
 
     // Its rows.
     pub fn rows(&self) -> Rows<'a>
         ensures value { rows_of result ≡ rows_in (bytes_of self.now) self.now.layout }
     {
-        rows_in(self.bytes, &self.layout)
+        self.sections().rows()
     }
 
     // For each row its taker, and for each branch its case: what encloses them, by the spans of rows.

@@ -1,20 +1,19 @@
-use Rattle.std.proofs.Common.{◌+◌, ◌*◌, [], ◌∷◌, length, sym, ap, subst, arith}
-use Rattle.std.proofs.lemmas.List.{drop_all}
-use Rattle.packed.specs.Packing.{nodes_of}
-use Rattle.packed.specs.Shaped.{forms_of}
-use Rattle.packed.proofs.Counts.{Counted, counted_none, counted-more}
+use Rattle.std.proofs.Common.{arith}
+use Rattle.std.proofs.lemmas.List.{take_rest}
+use Rattle.packed.proofs.Counts.{here, counted-more}
 use Rattle.packed.proofs.unpacking.node_count.Goals as goal
 
-pub loop-at-init : goal.loop-at-init
-loop-at-init c = counted_none (forms_of c.args.shapes.now) c.args.bytes.now (c.args.ty ∷ []) c.requires
+pub slice_bounds-rest-count : goal.slice_bounds-rest-count
+slice_bounds-rest-count c =
+    let w = rw c.in-Some.ensures.cases.0 at c.loop-tag.invariant in
+    omega (arith, c.from.ensures, c.integers.ensures.value, (here w).fits)
 
-pub loop-at-preserved : goal.loop-at-preserved
-loop-at-preserved c = subst (λ k. Counted (forms_of c.args.shapes.now) c.args.bytes.now (c.loop-at.at + (1 + 8 * k)) (c.loop-at.count + 1)) (sym c.integers.ensures.value) (counted-more c.loop-at.invariant c.loop-at-test.true)
+pub slice_bounds-rest-start : goal.slice_bounds-rest-start
+slice_bounds-rest-start c =
+    let w = rw c.in-Some.ensures.cases.0 at c.loop-tag.invariant in
+    omega (arith, c.from.ensures, c.integers.ensures.value, (here w).fits)
 
-pub returns : goal.returns
-returns c = record {
-  value =
-      let none = ap (λ l. length (nodes_of (forms_of c.args.shapes.now) 0 l)) (drop_all c.loop-at.at c.args.bytes.now c.loop-at-test.false) in
-      let sum = c.loop-at.invariant.sum in
-      omega arith;
-}
+pub loop-tag-preserved : goal.loop-tag-preserved
+loop-tag-preserved c =
+    let w = rw c.in-Some.ensures.cases.0 at c.loop-tag.invariant in
+    rw (take_rest, c.from.ensures, c.integers.ensures.value) (counted-more w)

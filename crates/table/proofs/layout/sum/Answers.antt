@@ -1,13 +1,13 @@
-use Rattle.std.proofs.Common.{arith}
-use Rattle.std.proofs.lemmas.List.{at_drop_more, at_drop_all}
+use Rattle.std.proofs.Common.{◌≡◌, ℕ, ◌+◌, List, [], ◌∷◌, sum, rules, refl, ap, ◌∙◌}
+use Rattle.std.proofs.lemmas.List.Sums.{sum_by-cons}
 use Rattle.packed.specs.Forms.{total}
 use Rattle.table.proofs.layout.sum.Goals as goal
 
-pub loop-size-preserved : goal.loop-size-preserved
-loop-size-preserved c =
-    let e = at_drop_more total c.args.sizes.now c.loop-size.size-index 0 c.loop-size-test.true in
-    let inv = c.loop-size.invariant in
-    (omega arith, omega arith)
+total-sum : (ns : List ℕ) → sum ns ≡ total ns
+total-sum [] = refl
+total-sum (n ∷ ns) = sum_by-cons (λ x. x) n ns ∙ ap (λ k. n + k) (total-sum ns)
 
 pub returns : goal.returns
-returns c = record { value = let e = at_drop_all total c.args.sizes.now c.loop-size.size-index c.loop-size-test.false in let inv = c.loop-size.invariant.0 in omega arith }
+returns c =
+    let same = total-sum c.args.sizes.now in
+    record { value = search (rules, same) }

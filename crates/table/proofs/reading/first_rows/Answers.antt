@@ -1,35 +1,18 @@
-use Rattle.std.proofs.Common.{◌≡◌, ℕ, [], ◌∷◌, ◌++◌, map, length, get_or, take, Some, sym, ap, ◌∙◌, arith}
-use Rattle.std.specs.Option.{option_map}
-use Rattle.std.proofs.lemmas.List.{length-set, take_more_set, map_more, take_all}
-use Rattle.std.proofs.lemmas.Option.{slice_get-get_or}
-use Rattle.table.specs.declared.function.Function.{Function}
+use Rattle.std.proofs.Common.{map, take, unwrap_or, sym, ap, ◌∙◌, arith, rules}
+use Rattle.std.proofs.lemmas.List.{length-map}
+use Rattle.std.proofs.lemmas.Option.{slice_get-map}
 use Rattle.table.specs.Held.{functions_of}
+use Rattle.table.specs.Meaning.{function_of}
+use Rattle.table.proofs.Arrays.{made-front}
+use Rattle.table.proofs.Recording.{length-records}
 use Rattle.table.proofs.reading.first_rows.Goals as goal
 
-abbrev blank : Function
-blank = record { parameters = 0; kinds = []; result = 0; first = 0 }
-
--- what is given of an option with a value
-given-first : (f : Function) (r : ℕ) → Some r ≡ option_map (λ g. g.first) (Some f) → r ≡ f.first
-given-first f r e = cc
-
-pub loop-f-preserved : goal.loop-f-preserved
-loop-f-preserved c =
+pub returns-clause-front : goal.returns-clause-front
+returns-clause-front c =
     let fs = functions_of c.args.functions.now in
-    let f = c.loop-f.f in
-    let inv = c.loop-f.invariant in
-    let count = c.len-f-end.ensures.value in
-    let here = slice_get-get_or fs f blank (omega arith) in
-    let one = given-first (get_or fs f blank) c.first_row.result (c.first_row.ensures.value ∙ ap (option_map (λ g. g.first)) here) in (
-      length-set c.loop-f.firsts f c.first_row.result ∙ inv.0,
-      take_more_set c.loop-f.firsts f c.first_row.result (omega arith) ∙ (λ i. inv.1 i ++ one i ∷ []) ∙ sym (map_more (λ g. g.first) fs f blank (omega arith)),
-    )
-
-pub returns : goal.returns
-returns c =
-    let fs = functions_of c.args.functions.now in
-    let all : c.loop-f.f ≡ length (functions_of c.args.functions.now) = omega (arith, c.len-f-end.ensures.value) in
-    record {
-      room = c.loop-f.invariant.0;
-      front = ap (λ n. take n c.loop-f.firsts) (sym all) ∙ c.loop-f.invariant.1 ∙ ap (map (λ g. g.first)) (take_all c.loop-f.f fs (omega arith));
-    }
+    let rs = c.args.functions.now.records in
+    let all = length-records 8 function_of rs.count rs.bytes.now in
+    let few = c.args.functions.now.few in
+    let long = length-map fs (λ f. f.first) in
+    ap (λ n. take n c.from_fn.result) (sym long)
+    ∙ made-front _ _ 32 0 (map (λ f. f.first) fs) (omega arith) (λ i y q h e. let got = ap (λ o. unwrap_or o 0) (sym (slice_get-map (λ f. f.first) fs i)) in search (rules, got)) c.from_fn.result c.from_fn.ensures.items

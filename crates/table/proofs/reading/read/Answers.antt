@@ -12,5 +12,5 @@ returns-in_err-parts c =
 
 pub returns : goal.returns
 returns c =
-    let value : Ok c.in_ok-parts.parts.layout ≡ table_of c.args.bytes.now = search rules in
-    record { value = value; formed = forming c.args.bytes.now (Ok c.in_ok-parts.parts.layout) value; first = firsting c.args.bytes.now (Ok c.in_ok-parts.parts.layout) value; only = refusing c.args.bytes.now (Ok c.in_ok-parts.parts.layout) value }
+    let value : Ok c.in_ok-parts.field-0.layout ≡ table_of c.args.bytes.now = search rules in
+    record { value = value; formed = forming c.args.bytes.now (Ok c.in_ok-parts.field-0.layout) value; first = firsting c.args.bytes.now (Ok c.in_ok-parts.field-0.layout) value; only = refusing c.args.bytes.now (Ok c.in_ok-parts.field-0.layout) value }

@@ -1,7 +1,7 @@
-use Rattle.std.proofs.Common.{◌≡◌, ℕ, ◌++◌, length, take, drop, Ok, Result, sym, ap, ◌∙◌, subst, rules}
+use Rattle.std.proofs.Common.{◌≡◌, ℕ, ◌++◌, take, drop, Ok, Result, sym, ap, ◌∙◌, subst, rules}
 use Rattle.std.proofs.lemmas.List.{take_at}
 use Rattle.packed.specs.declared.fault.Fault.{Fault}
-use Rattle.table.specs.Writing.{ReadsBack, table_bytes, table_length, write_of}
+use Rattle.table.specs.Writing.{ReadsBack, table_bytes, table_length}
 use Rattle.table.proofs.ReadingBack.{length-table}
 use Rattle.table.proofs.writing.write.Goals as goal
 
@@ -18,10 +18,9 @@ returns c =
     let out = c.args.out.now in
     let long = length-table sizes fields functions rows in
     let put = c.put_table.ensures in
-    let value : ◌≡◌ {A = Result ℕ Fault} (Ok (table_length c.args.sizes.now c.args.fields.now c.args.functions.now c.args.rows.now)) (write_of c.args.sizes.now c.args.fields.now c.args.functions.now c.args.rows.now (length c.args.out.now)) = search rules in
     let after = put.after ∙ ap (λ n. bytes ++ drop n out) long in
     record {
-      value = value;
+      value = search rules;
       after = after;
       back = λ n e.
           let same = same_ok (table_length sizes fields functions rows) n e in

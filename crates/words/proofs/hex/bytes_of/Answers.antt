@@ -1,21 +1,16 @@
-use Rattle.std.proofs.Common.{vec_items, sym, arith}
-use Rattle.words.proofs.Spelling.{odd, one_more, no_digit, done}
+use Rattle.std.proofs.Common.{vec_items, [], ap, sym, ◌∙◌, arith}
+use Rattle.words.specs.Text.{each_of}
+use Rattle.words.proofs.Each.{each-start, each-more}
+use Rattle.words.proofs.Spelling.{odd, pairs-even, pair_byte}
 use Rattle.words.proofs.hex.bytes_of.Goals as goal
 
-pub returns-then-text-ne0 : goal.returns-then-text-ne0
-returns-then-text-ne0 c = record { value = sym (odd c.args.text.now c.if-text-ne0.true) }
+pub returns-in_default : goal.returns-in_default
+returns-in_default c = record { value = sym (odd c.args.text.now (λ e. omega (arith, e, c.in_default.len_at_least, c.as_chunks.ensures.back_len))) }
 
-pub returns-in-None : goal.returns-in-None
-returns-in-None c = record {
-  value = no_digit c.args.text.now (vec_items c.loop-i.bytes) c.loop-i.i (omega arith) c.in-None.ensures.value c.loop-i.invariant;
-}
+pub loop-high-init : goal.loop-high-init
+loop-high-init c =
+    let even = pairs-even c.args.text.now (omega (arith, c.in_default-empty.len_below, c.as_chunks.ensures.back_len)) in
+    each-start _ _ _ c.new-bytes.ensures.items (ap (each_of pair_byte) c.as_chunks.ensures.front ∙ sym even)
 
-pub loop-i-preserved : goal.loop-i-preserved
-loop-i-preserved c =
-    one_more c.args.text.now (vec_items c.loop-i.bytes) (vec_items c.push.new.self) c.loop-i.i c.in-Some.b
-    c.in_ok-push-in-Some.ensures.items (omega arith) c.in-Some.ensures.value c.loop-i.invariant
-
-pub returns : goal.returns
-returns c = record {
-  value = done c.args.text.now (vec_items c.loop-i.bytes) c.loop-i.i (omega arith) c.loop-i.invariant;
-}
+pub loop-high-preserved : goal.loop-high-preserved
+loop-high-preserved c = each-more pair_byte c.as_chunks.result.0.now c.loop-high.high-index [] (vec_items c.loop-high.bytes) _ (vec_items c.push.new.self) c.in-Some.b c.loop-high-test.true c.in-Some.ensures.value c.in_ok-push.ensures.items c.loop-high.invariant

@@ -1,6 +1,8 @@
-use Rattle.std.proofs.Common.{rules}
-use Rattle.words.proofs.Cutting.{head-take}
+use Rattle.words.proofs.Cutting.{head-found, head-missed}
 use Rattle.words.proofs.text.head.Goals as goal
 
-pub returns : goal.returns
-returns c = search (rules, head-take)
+pub returns-in-Some : goal.returns-in-Some
+returns-in-Some c = record { value = head-found _ _ _ c.in-Some.ensures.value }
+
+pub returns-in-None : goal.returns-in-None
+returns-in-None c = record { value = head-missed _ _ c.in-None.ensures.value }

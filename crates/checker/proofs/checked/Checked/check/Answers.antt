@@ -1,4 +1,4 @@
-use Rattle.std.proofs.Common.{◌≡◌, ℕ, cond, is_ok, Ok, Err, sym, refl, ap, ◌∙◌, arith}
+use Rattle.std.proofs.Common.{◌≡◌, cond, is_ok, Ok, Err, sym, refl, ap, ◌∙◌}
 use Rattle.std.proofs.lemmas.Result.{err_from_is_err_and}
 use Rattle.table.specs.Tabled.{bytes_of}
 use Rattle.checker.specs.Checking.{check_of}
@@ -22,7 +22,7 @@ returns-in_err-read c =
 pub returns-in_err-bodies : goal.returns-in_err-bodies
 returns-in_err-bodies c =
     let p = err_from_is_err_and c.from_residual-in_err-bodies.result c.from_residual-in_err-bodies.ensures.1 in
-    let v : c.from_residual-in_err-bodies.result ≡ check_of c.args.bytes.now = p.1 ∙ ap Err p.2 ∙ check-judged c.args.bytes.now c.read.new.self (program_of c.of.result) (Err c.in_err-bodies.field-0.0) (read_held c.args.bytes.now (bytes_of c.read.new.self) _ _ c.in_ok-read.ensures.value c.in_ok-read.ensures.after) c.of.ensures.value c.in_err-bodies.ensures.value in
+    let v : c.from_residual-in_err-bodies.result ≡ check_of c.args.bytes.now = p.1 ∙ ap Err p.2 ∙ check-judged c.args.bytes.now c.read.new.self (program_of c.from.result) (Err c.in_err-bodies.field-0.0) (read_held c.args.bytes.now (bytes_of c.read.new.self) _ _ c.in_ok-read.ensures.value c.in_ok-read.ensures.after) c.from.ensures c.in_err-bodies.ensures.value in
     record {
       value = v;
       after = ap (λ r. cond (is_ok r) c.args.bytes.now (bytes_of c.args.self.now.table)) (sym p.1);
@@ -34,11 +34,11 @@ returns-in_err-bodies c =
 
 pub returns : goal.returns
 returns c =
-    let v : Ok tt ≡ check_of c.args.bytes.now = check-judged c.args.bytes.now c.read.new.self (program_of c.of.result) (Ok tt) (read_held c.args.bytes.now (bytes_of c.read.new.self) _ _ c.in_ok-read.ensures.value c.in_ok-read.ensures.after) c.of.ensures.value c.in_ok-bodies.ensures.value in
+    let v : Ok tt ≡ check_of c.args.bytes.now = check-judged c.args.bytes.now c.read.new.self (program_of c.from.result) (Ok tt) (read_held c.args.bytes.now (bytes_of c.read.new.self) _ _ c.in_ok-read.ensures.value c.in_ok-read.ensures.after) c.from.ensures c.in_ok-bodies.ensures.value in
     record {
       value = v;
       after = (read_held c.args.bytes.now (bytes_of c.read.new.self) _ _ c.in_ok-read.ensures.value c.in_ok-read.ensures.after);
-      same = λ f e. absurd (let z : ◌≡◌ {A = ℕ} 0 1 = cc in omega arith);
+      same = λ f e. cc;
       exactly = exactly c.args.bytes.now (Ok tt) v;
       first = first c.args.bytes.now (Ok tt) v;
       ruled = ruled c.args.bytes.now (Ok tt) v;

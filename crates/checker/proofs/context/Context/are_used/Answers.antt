@@ -1,11 +1,14 @@
-use Rattle.std.proofs.Common.{ap, ◌∙◌, arith}
+use Rattle.std.proofs.Common.{get_or, refl, ◌∙◌, arith, rules}
+use Rattle.std.proofs.lemmas.Iterator.{YieldsList-from_range}
+use Rattle.std.proofs.lemmas.Iterator.Search.{all_from_yields_List}
+use borrow.Author.Tests.{tests}
 use Rattle.checker.specs.Contexts.{used}
-use Rattle.checker.proofs.Alls.{all-stop, all_go}
-use Rattle.checker.proofs.Arguing.{used-more}
+use Rattle.checker.specs.Conditions.{all_used}
+use Rattle.checker.proofs.Alls.{all_in-range}
 use Rattle.checker.proofs.context.Context.are_used.Goals as goal
 
-pub returns-then-not-is_used : goal.returns-then-not-is_used
-returns-then-not-is_used c = record { value = all-stop _ _ _ _ c.loop-i.invariant (used-more c.args.self.now c.args.variables.now c.loop-i.i c.args.count (omega arith)) (c.if-not-is_used.ensures.value ∙ ap (used c.args.self.now.variables) c.number_at.ensures.value) }
-
-pub loop-i-preserved : goal.loop-i-preserved
-loop-i-preserved c = all_go _ _ _ _ c.loop-i.invariant (used-more c.args.self.now c.args.variables.now c.loop-i.i c.args.count (omega arith)) (c.if-not-is_used.ensures.value ∙ ap (used c.args.self.now.variables) c.number_at.ensures.value)
+pub returns : goal.returns
+returns c = record {
+  value = all_from_yields_List (λ i. used c.args.self.now.variables (get_or c.args.variables.now i 0)) _ _ _ c.all.ensures.ran (YieldsList-from_range 0 c.args.count c.args.count (cc) (omega arith)) (λ x b q k. search (rules, tests))
+      ∙ all_in-range (λ i. used c.args.self.now.variables (get_or c.args.variables.now i 0)) (λ i. i) (all_used c.args.self.now c.args.variables.now) (λ i. refl) (λ i. refl) (λ i n. refl) 0 0 c.args.count refl;
+}

@@ -1,6 +1,6 @@
-use Rattle.std.proofs.Common.{◌≡◌, ◌+◌, ◌-◌}
+use Rattle.std.proofs.Common.{◌≡◌, ◌-◌, length}
 use Rattle.checker.specs.Conditions.{chained}
 use Rattle.checker.proofs.context.Context.last_of_chain.Given as goal
 
-abbrev pub invariant-loop-i : goal.invariant-loop-i
-invariant-loop-i l = chained l.self l.due l.last l.variables (l.from + l.i) (l.count - l.i) ≡ chained l.self l.initial.due l.initial.last l.variables l.from l.count
+abbrev pub invariant-loop-x : goal.invariant-loop-x
+invariant-loop-x l = chained l.self l.due l.last l.trees l.x-index (length l.trees - l.x-index) ≡ chained l.self l.initial.due l.initial.last l.trees 0 (length l.trees)

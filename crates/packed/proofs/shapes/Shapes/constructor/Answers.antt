@@ -1,32 +1,21 @@
 -- A constructor that the shapes hold has fair fields.
-use Rattle.std.proofs.Common.{◌≡◌, ◌<◌, false, [], length, get_or, is_some, Some, sym, ap, ◌∙◌, arith, length-take, rules}
+use Rattle.std.proofs.Common.{◌≡◌, ℕ, ◌≤◌, ◌∙◌, ltb, List, length, get_or, Option, Some, None, Bor, IfSome, sym, ap, refl, subst}
 use Rattle.std.specs.List.{slice_get}
-use Rattle.std.proofs.lemmas.List.{get_or-take}
-use Rattle.std.proofs.lemmas.Option.{slice_get-get_or, slice_get_past}
+use Rattle.std.specs.Option.{is_some, option_copied}
+use Rattle.std.proofs.lemmas.Bool.{ltb-true, ltb-false}
+use Rattle.std.proofs.lemmas.Option.{slice_get_past, slice_get_read}
 use Rattle.packed.specs.declared.constructor.Constructor.{Constructor}
-use Rattle.packed.specs.Forms.{limit_of, fields_in}
 use Rattle.packed.specs.Shaped.{forms_of, sizes_of}
-use Rattle.packed.proofs.Fair.{forms-fair}
+use Rattle.packed.proofs.Fair.{few-fields}
 use Rattle.packed.proofs.shapes.Shapes.constructor.Goals as goal
 
--- what stands in a read outside of the list
-abbrev blank : Constructor
-blank = record { of = 0; fields = record { integers = 0; subtrees = 0; types = [] } }
+-- what `get` and `copied` read
+copied-get : (o : Option (Bor Constructor)) (xs : List Constructor) (i : ℕ) → is_some o ≡ ltb i (length xs) → IfSome o (λ x. x.now ≡ get_or xs i x.now) → option_copied o ≡ slice_get xs i
+copied-get None xs i within read = sym (slice_get_past xs i (ltb-false i (length xs) (sym within)))
+copied-get (Some x) xs i within read = sym (slice_get_read xs (length xs) i x.now refl (ltb-true i (length xs) (sym within)) read)
 
-pub returns-then-i-self : goal.returns-then-i-self
-returns-then-i-self c =
+pub returns-clause-cases : goal.returns-clause-cases
+returns-clause-cases c =
     let s = c.args.self.now in
-    let b = c.args.number in
-    let kept : is_some (limit_of (sizes_of s) (fields_in (forms_of s))) ≡ false = search rules in
-    let long = length-take s.count s.constructors in
-    let inside : b < length (forms_of s) = omega arith in
-    let at : slice_get (forms_of s) b ≡ Some (get_or s.constructors b blank) =
-    slice_get-get_or (forms_of s) b blank inside ∙ ap Some (get_or-take s.count s.constructors b blank (omega arith)) in
-    let fair = forms-fair (sizes_of s) (forms_of s) kept b (get_or s.constructors b blank) at in
-    record { value = sym at; cases = (fair.integers, fair.subtrees) }
-
-pub returns-else-i-self : goal.returns-else-i-self
-returns-else-i-self c =
-    let s = c.args.self.now in
-    let short = length-take s.count s.constructors in
-    record { value = sym (slice_get_past (forms_of s) c.args.number (omega arith)); cases = tt }
+    let at = c.copied.ensures ∙ copied-get c.get.result c.forms.result.now c.from.result c.get.ensures.lookup.0 c.get.ensures.lookup.1 ∙ ap (λ g. slice_get g c.from.result) c.forms.ensures in
+    subst (λ o. IfSome o (λ k. (k.fields.integers ≤ 4) × (k.fields.subtrees ≤ 4))) (sym at) (few-fields (sizes_of s) (forms_of s) s.fair c.from.result)

@@ -1,26 +1,15 @@
-use Rattle.std.proofs.Common.{[], Ok, Err, Option, Result, sym, ap, ◌∙◌}
-use Rattle.packed.specs.declared.constructor.Fields.{Fields}
-use Rattle.packed.specs.declared.constructor.Limit.{Limit}
-use Rattle.packed.specs.Forms.{either}
-use Rattle.packed.proofs.Limits.{fields-more, fields-stop, fields-all}
+use Rattle.std.proofs.Common.{◌≡◌, Some, None, Ok, Err, sym, refl, ap, ◌∙◌}
+use Rattle.packed.specs.declared.constructor.Limit.TheVariants as limit
+use Rattle.packed.specs.Forms.{either, fair, fields_limit}
+use Rattle.packed.proofs.Limits.{first-is}
 use Rattle.packed.proofs.shapes.make.test_fields.Goals as goal
 
--- what stands in a read outside of the list
-abbrev blank : Fields
-blank = record { integers = 0; subtrees = 0; types = [] }
+pub returns-in-Some : goal.returns-in-Some
+returns-in-Some c =
+    let first : fields_limit c.args.types 0 c.args.fields.now ≡ Some (limit.Constructor c.in-Some.number) = first-is (fair c.args.types) limit.Constructor (fields_limit c.args.types) (λ i. refl) (λ i f fs. refl) c.args.fields.now _ (sym c.in-Some.is ∙ c.first_unfair.ensures) in
+    ap (λ o. either o (Ok tt) Err) (sym first)
 
-abbrev answer : Option Limit → Result (Unit {0}) Limit
-answer o = either o (Ok tt) Err
-
-pub returns-then-not-is_fair : goal.returns-then-not-is_fair
-returns-then-not-is_fair c =
-    let stop = fields-stop c.args.types c.args.fields.now c.loop-number.number blank c.loop-number-test.true (sym c.if-not-is_fair.ensures) in
-    ap answer (sym stop ∙ c.loop-number.invariant)
-
-pub loop-number-preserved : goal.loop-number-preserved
-loop-number-preserved c =
-    let more = fields-more c.args.types c.args.fields.now c.loop-number.number blank c.loop-number-test.true (sym c.if-not-is_fair.ensures) in
-    sym more ∙ c.loop-number.invariant
-
-pub returns : goal.returns
-returns c = ap answer (sym (fields-all c.args.types c.args.fields.now c.loop-number.number c.loop-number-test.false) ∙ c.loop-number.invariant)
+pub returns-in-None : goal.returns-in-None
+returns-in-None c =
+    let first : fields_limit c.args.types 0 c.args.fields.now ≡ None = first-is (fair c.args.types) limit.Constructor (fields_limit c.args.types) (λ i. refl) (λ i f fs. refl) c.args.fields.now _ (sym c.in-None.is ∙ c.first_unfair.ensures) in
+    ap (λ o. either o (Ok tt) Err) (sym first)

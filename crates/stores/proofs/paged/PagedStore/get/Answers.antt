@@ -1,69 +1,30 @@
-use Rattle.std.proofs.Common.{refl, arith}
-use Rattle.packed.specs.declared.fault.Reason.TheVariants as reason
-use Rattle.cells.proofs.Refusing.{get-unknown, get-past, answer-refused}
-use Rattle.stores.proofs.Contents.{number_fits, byte_fits}
-use Rattle.stores.proofs.Pageds.{m, paged-count, paged-room, slot-low, place-low, met-loose, met-empty, met-filled}
+use Rattle.std.proofs.Common.{Err, refl, ap, ◌∙◌}
+use Rattle.std.proofs.lemmas.Result.{err_from_is_err_and}
+use Rattle.stores.proofs.Contents.{none-from-err, some-from-ok}
+use Rattle.stores.proofs.Meant.{get-outside, get-told}
+use Rattle.stores.proofs.Pageds.{paged-there, look-none, paged-look, paged-reach}
 use Rattle.stores.proofs.paged.PagedStore.get.Goals as goal
 
-pub returns-then-region-self : goal.returns-then-region-self
-returns-then-region-self c =
+pub returns-in_err-slot : goal.returns-in_err-slot
+returns-in_err-slot c =
+    let p = err_from_is_err_and c.from_residual.result c.from_residual.ensures.1 in
+    record { value = p.1 ∙ ap Err p.2 ∙ get-outside c.args.self.now.regions _ c.args.region c.args.cell _ _ _ c.in_err-slot.ensures.value }
+
+pub returns-in_err-page : goal.returns-in_err-page
+returns-in_err-page c =
     let s = c.args.self.now in
-    let n = paged-count s in
-    record { value = answer-refused _ _ reason.UnknownRegion _ (get-unknown (m s) c.args.region c.args.cell (omega arith)) c.refused.ensures.value }
+    let e = c.in_ok-slot.ensures.value in
+    let p = err_from_is_err_and c.from_residual-in_err-page.result c.from_residual-in_err-page.ensures.1 in
+    let w = none-from-err _ _ _ c.in_err-page.ensures.value in
+    record { value = get-told s.regions _ c.args.region c.args.cell (paged-there s c.args.region c.args.cell _ e) (p.1 ∙ ap Err (p.2 ∙ w.1 ∙ c.refused.ensures.value) ∙ rw (look-none s c.args.region c.args.cell _ e w.0) refl) }
 
-pub returns-then-cell-self : goal.returns-then-cell-self
-returns-then-cell-self c =
-    let s = c.args.self.now in
-    let n = paged-count s in
-    let q = paged-room s c.args.region c.if-region-self.false in
-    record { value = answer-refused _ _ reason.PastRoom _ (get-past (m s) c.args.region c.args.cell (omega arith) (omega arith)) c.refused-then-cell-self.ensures.value }
-
-pub overflow_add-page : goal.overflow_add-page
-overflow_add-page c = let l = slot-low c.args.self.now c.args.region c.if-region-self.false c.args.cell c.if-cell-self.false in omega arith
-
-pub offset_bounds-self-self : goal.offset_bounds-self-self
-offset_bounds-self-self c = let l = slot-low c.args.self.now c.args.region c.if-region-self.false c.args.cell c.if-cell-self.false in omega arith
-
-pub bounds-self-self : goal.bounds-self-self
-bounds-self-self c = let l = slot-low c.args.self.now c.args.region c.if-region-self.false c.args.cell c.if-cell-self.false in omega arith
-
-pub returns-then-page-eq0 : goal.returns-then-page-eq0
-returns-then-page-eq0 c =
-    let s = c.args.self.now in
-    record { value = answer-refused _ _ reason.Empty _ (met-loose s c.args.region c.args.cell c.if-region-self.false c.if-cell-self.false c.if-page-eq0.true) c.refused-then-page-eq0.ensures.value }
-
-pub bounds-self-page : goal.bounds-self-page
-bounds-self-page c =
-    let s = c.args.self.now in
-    let z = c.if-page-eq0.false in
-    let w = place-low s c.args.region c.args.cell (omega arith) in
-    w.2
-
-pub returns-then-held-ge-EMPTY : goal.returns-then-held-ge-EMPTY
-returns-then-held-ge-EMPTY c =
-    let s = c.args.self.now in
-    let z = c.if-page-eq0.false in
-    let w = met-empty s c.args.region c.args.cell c.if-region-self.false c.if-cell-self.false (omega arith) c.if-held-ge-EMPTY.true in
-    record { value = answer-refused _ _ reason.Empty _ w.0 c.refused-then-held-ge-EMPTY.ensures.value }
+pub filled-requires : goal.filled-requires
+filled-requires c =
+    rw c.within.ensures (paged-reach c.args.self.now c.args.region c.args.cell _ c.in_ok-slot.ensures.value _ (some-from-ok _ _ _ c.in_ok-page.ensures.value)).2
 
 pub returns : goal.returns
 returns c =
     let s = c.args.self.now in
-    let z = c.if-page-eq0.false in
-    let w = met-filled s c.args.region c.args.cell c.if-region-self.false c.if-cell-self.false (omega arith) c.if-held-ge-EMPTY.false in
-    record { value = rw (w.0, w.2) refl }
-
-pub offset_bounds-self-region : goal.offset_bounds-self-region
-offset_bounds-self-region c = (number_fits c.args.region c.args.self.now.count c.if-region-self.false c.args.self.now.few).4
-
-pub bounds-self-region : goal.bounds-self-region
-bounds-self-region c = (number_fits c.args.region c.args.self.now.count c.if-region-self.false c.args.self.now.few).0
-
-pub offset_bounds-self-region-2 : goal.offset_bounds-self-region-2
-offset_bounds-self-region-2 c = (number_fits c.args.region c.args.self.now.count c.if-region-self.false c.args.self.now.few).4
-
-pub bounds-self-region-2 : goal.bounds-self-region-2
-bounds-self-region-2 c = (number_fits c.args.region c.args.self.now.count c.if-region-self.false c.args.self.now.few).1
-
-pub overflow_cast-result : goal.overflow_cast-result
-overflow_cast-result c = byte_fits _ c.if-held-ge-EMPTY.false
+    let e = c.in_ok-slot.ensures.value in
+    let look = paged-look s c.args.region c.args.cell _ e _ (some-from-ok _ _ _ c.in_ok-page.ensures.value) in
+    record { value = get-told s.regions _ c.args.region c.args.cell (paged-there s c.args.region c.args.cell _ e) (c.filled.ensures.value ∙ rw (c.within.ensures, look) refl) }

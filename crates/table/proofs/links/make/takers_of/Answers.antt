@@ -11,6 +11,5 @@ pub returns-clause-all : goal.returns-clause-all
 returns-clause-all c =
     let rows = rows_of c.args.rows.now in
     let counted = c.len-n-end.ensures.value in
-    let few = c.len-n-end.ensures.bound in
     let inv = c.loop-n.invariant in
-    links-all rows c.loop-n.takers (taker_of rows) (omega arith) (λ k h. inv.known k (omega arith)) inv.behind
+    links-all rows c.loop-n.takers (taker_of rows) (λ k h. inv.known k (omega arith)) inv.behind

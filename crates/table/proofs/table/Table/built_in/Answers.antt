@@ -3,5 +3,5 @@ use Rattle.table.specs.Tabled.{built_in}
 use Rattle.table.proofs.Forming.{formed}
 use Rattle.table.proofs.table.Table.built_in.Goals as goal
 
-pub returns : goal.returns
-returns c = record { value = refl; formed = formed built_in _ refl }
+pub returns-clause-formed : goal.returns-clause-formed
+returns-clause-formed c = formed built_in _ refl
