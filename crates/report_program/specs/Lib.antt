@@ -1,2 +1,3 @@
 pub mod Refusing
 pub mod Written
+pub mod Storing
