@@ -2,13 +2,14 @@
 use Rattle.std.proofs.Common.{◌≡◌, ℕ, ◌+◌, ◌<◌, ◌≤◌, List, [], ◌∷◌, ◌++◌, map, length, get_or, take, drop, set, replicate, is_some, Some, None, Ok, Err, Option, Result, unwrap_or, sym, refl, ap, ◌∙◌, append_assoc, append-nil, arith}
 use Rattle.std.proofs.lemmas.List.{length-set, length-map, length-append, length-take-le, length-drop, length-replicate, get_or-set_same, get_or_at, get_or_push, get_or-replicate, set-set, set_at, set-get_or, map_more, drop_more, drop_all, take_all, length_push, get_or-map, get_or_append_left}
 use Rattle.std.proofs.lemmas.List.FromFn.{fill_by_all}
+use Rattle.std.proofs.lemmas.Bool.{le-ltb}
 use Rattle.std.specs.List.{range_with_len}
 use Rattle.packed.specs.declared.fault.Fault.{Fault}
 use Rattle.packed.specs.declared.fault.Reason.{Reason}
 use Rattle.packed.specs.Forms.{either}
 use Rattle.cells.specs.Meaning.{Meaning, Sound, region_at, room_at, cell_at}
 use Rattle.cells.specs.Calls.{answer, open_refusal, put_refusal, get_refusal, byte_at, with_cell, with_region, after_open, after_put}
-use Rattle.cells.specs.Copying.{with_bytes, after_hold, Copied}
+use Rattle.cells.specs.Copying.{with_bytes, after_hold, copy_refusal, Copied}
 use Rattle.cells.proofs.Refusing.{put-accepted, get-accepted, ok-tells, ok-gives, err-tells}
 use Rattle.cells.proofs.Changing.{region-new, region-count, region-laws}
 
@@ -76,12 +77,12 @@ front-all m bytes i e =
     ap (λ (xs : List (List (Option ℕ))). record { total = m.total; grain = m.grain; free = m'.free; regions = xs }) all
 
 -- what an accepted open leaves
-opened-is : (m m' : Meaning) (n k : ℕ) → Ok k ≡ answer (open_refusal m n) (length m.regions) → m' ≡ after_open m n → (open_refusal m n ≡ None) × (k ≡ length m.regions) × (m' ≡ with_region m n)
+pub opened-is : (m m' : Meaning) (n k : ℕ) → Ok k ≡ answer (open_refusal m n) (length m.regions) → m' ≡ after_open m n → (open_refusal m n ≡ None) × (k ≡ length m.regions) × (m' ≡ with_region m n)
 opened-is m m' n k e q =
     let fine : open_refusal m n ≡ None = ok-tells (open_refusal m n) (length m.regions) k e in
     (fine, ok-gives (open_refusal m n) (length m.regions) k e, q ∙ ap (λ (o : Option Reason). either o (with_region m n) (λ _. m)) fine)
 
-opened-blank : (m m' : Meaning) (n k : ℕ) → k ≡ length m.regions → m' ≡ with_region m n → (k < length m'.regions) × (region_at m' k ≡ replicate n None)
+pub opened-blank : (m m' : Meaning) (n k : ℕ) → k ≡ length m.regions → m' ≡ with_region m n → (k < length m'.regions) × (region_at m' k ≡ replicate n None)
 opened-blank m m' n k e q =
     let c = region-count m n in
     rw (q, e) (omega arith, region-new m n)
@@ -152,6 +153,9 @@ pub copied_is : (m m' : Meaning) (k : ℕ) (bytes : List ℕ) → open_refusal m
 copied_is m m' k bytes fine e q sound =
     let s : Sound (with_bytes m bytes) = rw q at sound in
     rw (q, e) (held-copied m bytes fine s)
+
+pub copy-refusal : (m : Meaning) (bytes back : List ℕ) → length bytes ≤ length back → open_refusal m (length bytes) ≡ copy_refusal m bytes back
+copy-refusal m bytes back h = rw (le-ltb (length back) (length bytes) h)
 
 pub copy_got : (m m' : Meaning) (k : ℕ) (bytes back got : List ℕ) → k ≡ length m.regions → m' ≡ with_bytes m bytes → length bytes ≤ length back →
     got ≡ map (byte_at m' k) (range_with_len 0 (length (take (length bytes) back))) → got ++ drop (length bytes) back ≡ bytes ++ drop (length bytes) back

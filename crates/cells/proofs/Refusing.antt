@@ -1,11 +1,12 @@
 -- What each call answers and leaves, ground by ground.
-use Rattle.std.proofs.Common.{◌≡◌, ℕ, ◌<◌, ◌≤◌, true, false, length, is_some, Some, None, Ok, Err, Option, Result, refl, ap}
-use Rattle.std.proofs.lemmas.Bool.{le-leb, lt-leb}
+use Rattle.std.proofs.Common.{◌≡◌, ℕ, ◌<◌, ◌≤◌, true, false, ◌⊎◌, length, is_some, Some, None, Ok, Err, Option, Result, refl, ap, inl, inr, arith}
+use Rattle.std.proofs.lemmas.Bool.{le-leb, lt-leb, le-ltb, ne_eqb, eq-eqb}
+use Rattle.std.proofs.lemmas.Bool.Decides.{nat_tests}
 use Rattle.packed.specs.declared.fault.Fault.{Fault}
 use Rattle.packed.specs.declared.fault.Reason.{Reason}
 use Rattle.packed.specs.declared.fault.Reason.TheVariants as reason
 use Rattle.packed.specs.Packing.{refusal}
-use Rattle.cells.specs.Meaning.{Meaning, room_at, cell_at}
+use Rattle.cells.specs.Meaning.{Meaning, most_regions, most_cells, room_at, cell_at, rounded}
 use Rattle.cells.specs.Calls.{room_refusal, put_refusal, get_refusal, open_refusal, answer, with_cell, with_region, after_put, after_open}
 
 module _ (m : Meaning) (r i : ℕ) where
@@ -49,9 +50,22 @@ module _ (m : Meaning) (r i : ℕ) where
   put-done b m' e q = rw e (refl, q)
 
 module _ (m : Meaning) (n : ℕ) where
+  pub open-accepted : 0 < n → n ≤ most_cells → length m.regions < most_regions → rounded m.grain n ≤ m.free → open_refusal m n ≡ None
+  open-accepted a b c d = rw (ne_eqb n 0 (λ e. omega arith), le-ltb most_cells n b, lt-leb most_regions (length m.regions) c, le-ltb m.free (rounded m.grain n) d)
+
+  pub open-ground : (n ≡ 0) ⊎ ((most_cells < n) ⊎ ((most_regions ≤ length m.regions) ⊎ (m.free < rounded m.grain n))) → open_refusal m n ≡ Some reason.OpenRefused
+  open-ground (inl a) = rw (eq-eqb n 0 a)
+  open-ground (inr (inl b)) = grind (arith, nat_tests)
+  open-ground (inr (inr (inl c))) = grind (arith, nat_tests)
+  open-ground (inr (inr (inr d))) = grind (arith, nat_tests)
+
   pub open_done : (k : ℕ) (m' : Meaning) → open_refusal m n ≡ None → k ≡ length m.regions → m' ≡ with_region m n →
       (Ok k ≡ answer (open_refusal m n) (length m.regions)) × (m' ≡ after_open m n)
   open_done k m' e h q = rw e (ap Ok h, q)
+
+  pub open-refused : (k : ℕ) (f : Fault) → open_refusal m n ≡ Some reason.OpenRefused → f ≡ refusal reason.OpenRefused 0 →
+      (◌≡◌ {A = Result ℕ Fault} (Err f) (answer (open_refusal m n) k)) × (m ≡ after_open m n)
+  open-refused k f e q = rw (e, q) (refl, refl)
 
 -- a refused answer of any kind
 pub answer-refused : {X : Type 0} (x : X) (o : Option Reason) (why : Reason) (f : Fault) → o ≡ Some why → f ≡ refusal why 0 → Err f ≡ answer o x

@@ -62,7 +62,7 @@ impl<'a> Store for Flat<'a> {
     ghost joins = { λ a b c p q. kept_joins a.regions.grains b.regions.grains c.regions.grains a.cells.now b.cells.now c.cells.now p q };
 
     fn open(&mut self, room: usize) -> Result<usize, Fault> {
-        self.regions.open(room)
+        self.regions.open(room, room)
     }
 
     fn put(&mut self, region: usize, cell: usize, byte: u8) -> Result<(), Fault> {

@@ -111,7 +111,7 @@ impl<'a> Store for Paged<'a> {
     ghost joins = { λ a b c p q. kept_joins (a.regions.grains * 64) (b.regions.grains * 64) (c.regions.grains * 64) a.cells.now b.cells.now c.cells.now p q };
 
     fn open(&mut self, room: usize) -> Result<usize, Fault> {
-        self.regions.open(room)
+        self.regions.open(room, room.div_ceil(PAGE))
     }
 
     fn put(&mut self, region: usize, cell: usize, byte: u8) -> Result<(), Fault> {

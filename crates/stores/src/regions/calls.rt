@@ -2,7 +2,7 @@
 ghost use Rattle.std.specs.Prelude.{◌≡◌, ◌-◌, ◌≤◌, MatchResult};
 ghost use Rattle.cells.specs.Calls.{answer};
 ghost use Rattle.stores.specs.Opening.{outside, unknown, shut, Opened, first_in, room_in};
-ghost use Rattle.stores.specs.Regions.{region_of};
+ghost use Rattle.stores.specs.Regions.{grains_of, region_of};
 
 use super::{Region, Regions};
 use cells::{MAX_REGIONS, MAX_ROOM};
@@ -39,13 +39,14 @@ impl Regions {
         self.count
     }
 
-    // Opens a region of this many cells behind the last.
-    pub fn open(&mut self, room: usize) -> Result<usize, Fault>
+    // Opens a region of this many cells behind the last, which takes `need` grains. (The store counts them: it knows the size of
+    // its grain, so that nothing is divided by a number that only a run knows.)
+    pub fn open(&mut self, room: usize, need: usize) -> Result<usize, Fault>
+        requires { need ≡ grains_of self.old.grain room }
         ensures value { result ≡ answer (shut self.old room) self.old.count }
         ensures after { MatchResult result (λ _. Opened self.old self.new room) (λ _. self.new ≡ self.old) }
     {
         let number = self.count;
-        let need = room.div_ceil(self.grain);
         let free = self.free();
         if room == 0 || room > MAX_ROOM || number >= MAX_REGIONS || need > free {
             return Err(refused(Reason::OpenRefused, 0));
